@@ -1,0 +1,17 @@
+//! The outside of the program: the device with its link, and the source of the session text.
+#![tactic(auto)]
+
+mod board;
+mod calls;
+mod memory;
+mod memory_source;
+mod source;
+mod step;
+#[cfg(test)]
+mod tests;
+
+pub use board::{Board, Failed};
+pub use calls::CallKind;
+pub use memory::MemBoard;
+pub use memory_source::MemSource;
+pub use source::Source;

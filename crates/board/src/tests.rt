@@ -1,0 +1,74 @@
+// What no clause says: that the calls succeed where there is memory, and what comes in their place
+// where a failure was planned.
+use crate::board::{Board, Failed};
+use crate::calls::CallKind;
+use crate::memory::MemBoard;
+use crate::memory_source::MemSource;
+use crate::source::Source;
+use std::alloc::Global;
+use std::test::Fail;
+
+fn send_two<B: Board>(board: &mut B) -> Result<(), Failed> {
+    board.send(b"one, ")?;
+    board.send(b"two")
+}
+
+// Takes three octets at a time, to the end of the text.
+fn take_all<S: Source>(alloc: Global, source: &mut S) -> Result<(Vec<usize>, Vec<u8>), Fail> {
+    let mut counts = Vec::new(alloc);
+    let mut octets = Vec::new(alloc);
+    for _ in 0..10 {
+        let mut buffer = [0; 3];
+        let count = source.take(&mut buffer)?;
+        counts.push(count)?;
+        octets.extend_from_slice(&buffer[..count])?;
+        if count == 0 {
+            break;
+        }
+    }
+    Ok((counts, octets))
+}
+
+#[test]
+fn a_board_keeps_all_that_was_sent(rt: HostRuntime) -> Result<(), Fail> {
+    let mut board = MemBoard::new(rt.alloc(), 16)?;
+    assert_eq!(rt; board.blocks(), 16);
+    assert_eq!(rt; board.sent().len(), 0);
+    send_two(&mut board)?;
+    assert_eq!(rt; board.sent(), b"one, two".as_slice());
+    assert!(rt; !board.starved());
+    Ok(())
+}
+
+#[test]
+fn a_send_that_was_planned_to_fail_sends_nothing(rt: HostRuntime) -> Result<(), Fail> {
+    let mut board = MemBoard::new(rt.alloc(), 512)?;
+    board.plan(CallKind::Send, 2)?;
+    assert_eq!(rt; send_two(&mut board), Err(Failed));
+    assert_eq!(rt; board.sent(), b"one, ".as_slice());
+    board.send(b"three")?;
+    assert_eq!(rt; board.sent(), b"one, three".as_slice());
+    assert!(rt; !board.starved());
+    Ok(())
+}
+
+#[test]
+fn a_source_gives_its_text_in_order(rt: HostRuntime) -> Result<(), Fail> {
+    let mut source = MemSource::new(b"0123456789".to_vec(rt.alloc())?);
+    let (counts, octets) = take_all(rt.alloc(), &mut source)?;
+    assert_eq!(rt; counts.as_slice(), [3, 3, 3, 1, 0].as_slice());
+    assert_eq!(rt; octets.as_slice(), b"0123456789".as_slice());
+    Ok(())
+}
+
+#[test]
+fn a_take_that_was_planned_to_fail_takes_nothing(rt: HostRuntime) -> Result<(), Fail> {
+    let mut source = MemSource::new(b"0123".to_vec(rt.alloc())?);
+    source.plan(2);
+    let mut buffer = [0; 3];
+    assert_eq!(rt; source.take(&mut buffer), Ok(3));
+    assert_eq!(rt; source.take(&mut buffer), Err(Failed));
+    assert_eq!(rt; source.take(&mut buffer), Ok(1));
+    assert_eq!(rt; buffer[0], b'3');
+    Ok(())
+}

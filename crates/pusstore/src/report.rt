@@ -1,0 +1,47 @@
+// How the program ends, and what it says of it on standard error.
+
+use station::Ending;
+use std::fmt;
+use std::process::ExitCode;
+
+/// Why the program did not do all that it was asked.
+#[derive(Drop)]
+pub enum Report {
+    /// The first two words name no device.
+    Device,
+    /// The session ended so.
+    Session(Ending),
+}
+
+impl Report {
+    /// Whether all was done, so that there is nothing to say.
+    pub fn is_done(&self) -> bool {
+        matches!(self, Report::Session(Ending::Done))
+    }
+
+    /// The status of the process.
+    pub fn status(&self) -> ExitCode {
+        match self {
+            Report::Device => ExitCode::from(1),
+            Report::Session(ending) => ExitCode::from(ending.status()),
+        }
+    }
+}
+
+impl fmt::Display for Report {
+    fn fmt<W: fmt::Write>(&self, f: &mut fmt::Formatter<W>) -> fmt::Result {
+        match self {
+            Report::Device => f.write_str("pusstore: device: use mem N or file PATH"),
+            Report::Session(Ending::Done) => Ok(()),
+            Report::Session(Ending::BadWords) => f.write_str(
+                "pusstore: words: use run, fresh, format, list or generate NUMBER COUNT",
+            ),
+            Report::Session(Ending::BadLine { line, why }) => {
+                write!(f, "pusstore: line {line}: {why}")
+            }
+            Report::Session(Ending::LinkFault) => f.write_str("pusstore: link fault"),
+            Report::Session(Ending::SourceFault) => f.write_str("pusstore: source fault"),
+            Report::Session(Ending::NoMemory) => f.write_str("pusstore: no memory"),
+        }
+    }
+}

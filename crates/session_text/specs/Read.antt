@@ -1,0 +1,15 @@
+-- What a line that was read says, with the octets of its packet in a buffer.
+use Rattle.std.specs.Prelude.{◌≤◌, ◌<◌, ◌^◌, ℕ, List, length, take}
+use Rattle.space_packet.specs.Packet.{IsPacket}
+use Rattle.session_text.specs.declared.form.Form.{Form}
+use Rattle.session_text.specs.declared.form.Form.TheVariants as forms
+use Rattle.session_text.specs.Command.{Command, Arrival, Grant}
+
+abbrev pub command_in : List ℕ → Form → Command
+command_in packet (forms.Arrival moment length) = Arrival moment (take length packet)
+command_in packet (forms.Grant moment) = Grant moment
+
+-- the moment is one, and the buffer begins with a packet of the length that the form says
+abbrev pub IsHeld : List ℕ → Form → Type 0
+IsHeld packet (forms.Arrival moment count) = (moment < 2 ^ 48) × (count ≤ length packet) × IsPacket (take count packet)
+IsHeld packet (forms.Grant moment) = moment < 2 ^ 48

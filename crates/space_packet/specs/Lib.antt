@@ -1,0 +1,3 @@
+pub mod Charge
+pub mod Packet
+pub mod View

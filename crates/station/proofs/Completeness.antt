@@ -1,0 +1,26 @@
+-- Where nothing failed, a session ends as its text says, unless there was no memory.
+use Rattle.std.proofs.Common.{◌≡◌, ◌≢◌, ◌⊎◌, inl, inr, ℕ, List, Option, Some, None, refl, sym, subst}
+use Rattle.std.specs.Prelude.{MatchOption}
+use Rattle.session_text.specs.declared.fault.LineFault.{LineFault}
+use Rattle.session_text.specs.Text.{first_bad}
+use Rattle.station.specs.declared.ending.Ending.{Ending}
+use Rattle.station.specs.declared.ending.Ending.TheVariants.{Done, BadWords, BadLine, LinkFault, SourceFault, NoMemory}
+use Rattle.station.specs.Session.{EndsAsTold, EndsReading, text_limit}
+
+-- what the first bad line, or that there is none, says of an ending
+told_by : Option (ℕ × LineFault) → Ending → Type 0
+told_by bad ending = MatchOption bad ((ending ≡ Done) ⊎ (ending ≡ NoMemory)) (λ line. (ending ≡ BadLine line.0 line.1) ⊎ (ending ≡ NoMemory))
+
+starved : (bad : Option (ℕ × LineFault)) → told_by bad NoMemory
+unfolding told_by
+starved None = inr refl
+starved (Some bad) = inr refl
+
+pub ends_as_told : (text left : List ℕ) (ending : Ending) → EndsReading text left ending → ending ≢ BadWords → ending ≢ LinkFault → ending ≢ SourceFault → EndsAsTold text ending
+unfolding told_by
+ends_as_told text left Done reading known unlinked unsourced = subst (λ (bad : Option (ℕ × LineFault)). told_by bad Done) (sym reading.0) (inl refl)
+ends_as_told text left BadWords reading known unlinked unsourced = absurd (known refl)
+ends_as_told text left (BadLine line why) reading known unlinked unsourced = subst (λ (bad : Option (ℕ × LineFault)). told_by bad (BadLine line why)) (sym reading) (inl refl)
+ends_as_told text left LinkFault reading known unlinked unsourced = absurd (unlinked refl)
+ends_as_told text left SourceFault reading known unlinked unsourced = absurd (unsourced refl)
+ends_as_told text left NoMemory reading known unlinked unsourced = starved (first_bad text_limit text)

@@ -1,0 +1,17 @@
+use Rattle.std.proofs.Common.{rules}
+use Rattle.station.proofs.Turns.{carried_none}
+use Rattle.station.proofs.session.carry_out_all.Goals as goal
+
+pub commands-init : goal.commands-init
+commands-init g c =
+    let board = g.B.Board in
+    let source = g.S.Source in
+    record {
+      carried = carried_none board.device board.moment board.sent board.counts source.tells source.left source.faults c.args.board.now c.args.source.now _ _ c.requires.reader c.requires.table;
+      live = search rules;
+      limit = search rules;
+      within = search rules;
+    }
+
+pub returns-in-Some : goal.returns-in-Some
+returns-in-Some g c = c.in-Some.ensures.ends c.args.board.now c.args.source.now c.commands.invariant.carried

@@ -1,0 +1,57 @@
+// The words that the program is called with.
+ghost use Rattle.std.specs.Prelude.{◌≡◌, ◌↔◌, IsTrue};
+ghost use Rattle.station.specs.Words.{AreFresh, blocks_of, device_named, texts_of};
+
+/// The least number of blocks of a device.
+const LEAST: u32 = 16;
+
+/// The greatest number of blocks of a device.
+const MOST: u32 = 512;
+
+/// The most digits of a number word.
+const DIGITS: usize = 20;
+
+/// `parse` takes this sign in front of a number. A number word has none.
+const SIGN: u8 = b'+';
+
+/// On what device a session runs.
+#[derive(Clone, Copy, Debug, PartialEq, Eq)]
+pub enum Device {
+    /// In memory, with so many blocks, 16 to 512.
+    Memory(u32),
+}
+
+// The number of a word of 1 to 20 decimal digits, where it is at most that of a device.
+fn blocks_in(word: &str) -> Option<u32>
+    ensures { result ≡ blocks_of word.now }
+{
+    let octets = word.as_bytes();
+    if octets.is_empty() || octets.len() > DIGITS || octets[0] == SIGN {
+        return None;
+    }
+    let Ok(blocks) = word.parse::<u32>() else {
+        return None;
+    };
+    if blocks < LEAST || blocks > MOST {
+        return None;
+    }
+    Some(blocks)
+}
+
+/// The device that the first two words name: `mem` and 1 to 20 decimal digits, whose number is from 16
+/// to 512.
+pub fn device_of(words: &Vec<String>) -> Option<Device>
+    ensures { result ≡ device_named (texts_of words.now) }
+{
+    if words.len() < 2 || words[0].as_str() != "mem" {
+        return None;
+    }
+    Some(Device::Memory(blocks_in(words[1].as_str())?))
+}
+
+/// Whether the words of a session are `fresh` alone.
+pub fn are_fresh(words: &Vec<String>) -> bool
+    ensures { IsTrue result ↔ AreFresh (texts_of words.now) }
+{
+    words.len() == 1 && words[0].as_str() == "fresh"
+}
