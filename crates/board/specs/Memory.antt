@@ -36,6 +36,7 @@ is_starved board = board.starved
 -- A board that was just made.
 pub record IsNewBoard (blocks : ℕ) (board : MemBoard) : Type 0 where
   pub device : device_of board ≡ record { blocks = blocks; tells_link = true }
+  pub moment : moment_of board ≡ 0
   pub sent : sent_at board (moment_of board) ≡ []
   pub counts : counts_of board ≡ record { link_faults = 0 }
   pub made : sends_made board ≡ 0

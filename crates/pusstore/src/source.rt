@@ -1,5 +1,5 @@
 // Standard input as the source of a session text.
-ghost use Rattle.std.specs.Prelude.{false, []};
+ghost use Rattle.std.specs.Prelude.{◌≤◌, false, [], length, IfSome};
 
 use board::{Failed, Source};
 use std::io::{ErrorKind, Read};
@@ -17,6 +17,20 @@ impl<R: Read + Drop> StdSource<R> {
     }
 }
 
+// Reads what there is, again where a signal came before any octet did. None says that it failed.
+fn read_some<R: Read>(input: &mut R, into: &mut [u8]) -> Option<usize>
+    ensures { IfSome result (λ count. count ≤ length into.old) }
+{
+    for _ in 0..u64::MAX {
+        match input.read(into) {
+            Ok(count) => return Some(count),
+            Err(error) if error.kind() == ErrorKind::Interrupted => {}
+            Err(_) => return None,
+        }
+    }
+    None
+}
+
 impl<R: Read + Drop> Source for StdSource<R> {
     ghost tells = { λ source. false };
 
@@ -25,15 +39,12 @@ impl<R: Read + Drop> Source for StdSource<R> {
     ghost faults = { λ source. source.faults };
 
     fn take(&mut self, into: &mut [u8]) -> Result<usize, Failed> {
-        for _ in 0..u64::MAX {
-            match self.input.read(into) {
-                Ok(count) => return Ok(count),
-                // A signal came before any octet did.
-                Err(error) if error.kind() == ErrorKind::Interrupted => {}
-                Err(_) => break,
+        match read_some(&mut self.input, into) {
+            Some(count) => Ok(count),
+            None => {
+                self.faults = self.faults.saturating_add(1);
+                Err(Failed)
             }
         }
-        self.faults = self.faults.saturating_add(1);
-        Err(Failed)
     }
 }

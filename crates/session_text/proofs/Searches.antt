@@ -31,8 +31,7 @@ pub found-line : (held : List ℕ) (seen more : ℕ) → seen ≤ length held �
 found-line held seen more within none first passes =
     let high = first.high in
     let room : seen + more < length held = omega (arith, length-drop seen held) in
-    let octet : get_or held (seen + more) 0 ≡ 10 = sym (get_or-drop seen held more 0) ∙ eqb-true _ _ passes in
-    (
+    let octet : get_or held (seen + more) 0 ≡ 10 = sym (get_or-drop seen held more 0) ∙ eqb-true _ _ passes in (
       (
         drop (seen + more + 1) held,
         sym (take-append-drop (seen + more) held) ∙ ap (λ (l : List ℕ). take (seen + more) held ++ l) (drop_more held (seen + more) 0 room ∙ ap (λ (o : ℕ). o ∷ drop (seen + more + 1) held) octet),
@@ -64,8 +63,8 @@ Gains-front old new count told before after gains = (
   ap (take (length old)) gains.behind ∙ take-append-le (length old) old gains.gained (omega arith) ∙ take_all (length old) old (omega arith),
   omega (arith, ap length gains.behind, length-append old gains.gained),
   λ tells.
-  ap (λ (l : List ℕ). l ++ after) gains.behind ∙ append_assoc old gains.gained after
-  ∙ ap (λ (l : List ℕ). old ++ l) (sym (gains.taken tells)),
+      ap (λ (l : List ℕ). l ++ after) gains.behind ∙ append_assoc old gains.gained after
+      ∙ ap (λ (l : List ℕ). old ++ l) (sym (gains.taken tells)),
 )
 
 -- The same of a search in the octets as a slice gives them.

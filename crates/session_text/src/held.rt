@@ -1,8 +1,8 @@
 // The octets that were taken from a source and not yet read.
 //
 // They stand together in a buffer, from `start` up to `end`. What is behind them is filled, and where
-// there is no room behind them they move to the front. Since at most half of the buffer is in use when
-// it is filled, an octet moves once for each half of a buffer that was taken.
+// there is no room behind them they move to the front. At most about half of the buffer is in use when
+// it is filled, so what moves is no more than what was taken since the last move.
 ghost use Rattle.std.specs.Prelude.{◌≡◌, ◌≤◌, ◌+◌, ◌++◌, [], length, drop, IsTrue, IfOk, IfErr, OnErr};
 ghost use Rattle.board.specs.Counts.{Rose};
 ghost use Rattle.session_text.specs.Gain.{Gains};

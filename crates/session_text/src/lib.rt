@@ -14,3 +14,6 @@ pub use fault::{LineEnd, LineFault};
 pub use laws::{lines_of_text, written_forms};
 pub use lines::Lines;
 pub use output::write_line;
+
+#[cfg(test)]
+mod tests;

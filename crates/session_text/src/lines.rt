@@ -64,7 +64,11 @@ fn find_line<S: Source>(held: &mut Held, source: &mut S) -> Found
             return Found::Endless;
         }
         match held.fill(source) {
-            Ok(0) => return if seen == 0 { Found::End } else { Found::Endless },
+            Ok(0) => return if seen == 0 {
+                Found::End
+            } else {
+                Found::Endless
+            },
             Ok(_) => {}
             Err(_) => return Found::Failed,
         }

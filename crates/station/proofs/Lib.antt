@@ -5,6 +5,7 @@ pub mod Contents
 pub mod Grants
 pub mod Leasts
 pub mod Numbers
+pub mod Rehearsals
 mod Rows
 pub mod Runs
 pub mod Texts

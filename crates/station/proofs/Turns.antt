@@ -220,8 +220,8 @@ module _ {B S : Type 0} (device : B → Device) (moment : B → ℕ) (sent : B �
     ended_link rose =
         ended_within LinkFault (λ is. cc) (λ told. tt)
         (λ link told.
-            let now = (moments_on link).each (moment board') (moments_on link).later (omega arith) in
-            (now.front, now.gained, tt))
+        let now = (moments_on link).each (moment board') (moments_on link).later (omega arith) in
+        (now.front, now.gained, tt))
         (λ is. rose) (λ is. cc)
 
     -- the command was carried out

@@ -4,6 +4,7 @@ pub mod Endings
 pub mod Kept
 pub mod Laws
 pub mod Least
+pub mod Rehearsal
 pub mod Rules
 pub mod Run
 pub mod Session

@@ -10,8 +10,7 @@ returns-in-Some-clause-found g c =
 pub returns-then-seen-gt-LONGEST-clause-found : goal.returns-then-seen-gt-LONGEST-clause-found
 returns-then-seen-gt-LONGEST-clause-found g c =
     let known = c.takes.invariant in
-    let long : 131200 < length c.takes.held = subst (λ (l : List ℕ). 131200 < length l) c.octets-seen.ensures.octets c.if-seen-gt-LONGEST.true in
-    (
+    let long : 131200 < length c.takes.held = subst (λ (l : List ℕ). 131200 < length l) c.octets-seen.ensures.octets c.if-seen-gt-LONGEST.true in (
       λ empty. omega (arith, ap length empty, long),
       searched-none c.octets.result.now c.takes.held c.takes.seen c.octets.ensures.octets known.within known.unended c.in_default.ensures,
       inl long,

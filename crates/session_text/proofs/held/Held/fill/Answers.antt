@@ -10,9 +10,9 @@ returns-in_err-count-clause-failed g c =
     let old : Stands c.self.inside.octets.items c.self.inside.start c.self.inside.end c.args.self.now =
     record { order = c.self.invariant.0; within = omega arith; between = c.self.view_is } in
     let stands : Stands inside.octets.items inside.start inside.end c.args.self.now = elim c.if-self-eq-ROOM.branch [
-      then-self-eq-ROOM w ↦
-      subst (λ (i : Inside). Stands i.octets.items i.start i.end c.args.self.now) (sym w.self-inside-is)
-      (rw w.copy_within.ensures.items (Stands-moved _ _ _ _ old))
+      | then-self-eq-ROOM w ↦
+          subst (λ (i : Inside). Stands i.octets.items i.start i.end c.args.self.now) (sym w.self-inside-is)
+          (rw w.copy_within.ensures.items (Stands-moved _ _ _ _ old))
       | else-self-eq-ROOM w ↦ subst (λ (i : Inside). Stands i.octets.items i.start i.end c.args.self.now) (sym w.self-inside-is) old
     ] in
     let lent : Stands c.deref_mut.result.now inside.start inside.end c.args.self.now = rw c.deref_mut.ensures.value stands in
@@ -25,9 +25,9 @@ returns-clause-gains g c =
     let old : Stands c.self.inside.octets.items c.self.inside.start c.self.inside.end c.args.self.now =
     record { order = c.self.invariant.0; within = omega arith; between = c.self.view_is } in
     let stands : Stands inside.octets.items inside.start inside.end c.args.self.now = elim c.if-self-eq-ROOM.branch [
-      then-self-eq-ROOM w ↦
-      subst (λ (i : Inside). Stands i.octets.items i.start i.end c.args.self.now) (sym w.self-inside-is)
-      (rw w.copy_within.ensures.items (Stands-moved _ _ _ _ old))
+      | then-self-eq-ROOM w ↦
+          subst (λ (i : Inside). Stands i.octets.items i.start i.end c.args.self.now) (sym w.self-inside-is)
+          (rw w.copy_within.ensures.items (Stands-moved _ _ _ _ old))
       | else-self-eq-ROOM w ↦ subst (λ (i : Inside). Stands i.octets.items i.start i.end c.args.self.now) (sym w.self-inside-is) old
     ] in
     let lent : Stands c.deref_mut.result.now inside.start inside.end c.args.self.now = rw c.deref_mut.ensures.value stands in
