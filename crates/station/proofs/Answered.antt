@@ -1,15 +1,15 @@
 -- What a turn of a session makes of the reader's answer.
-use Rattle.std.proofs.Common.{◌≡◌, ℕ, ◌+◌, ◌≤◌, Bool, true, List, ◌++◌, drop, Option, Some, None, Result, Ok, Err, sym, ◌∙◌, ap, subst}
-use Rattle.std.specs.Prelude.{Contains, IsTrue}
+use Rattle.std.proofs.Common.{◌≡◌, ℕ, ◌≤◌, Bool, List, ◌++◌, drop, Option, Some, None, Result, Ok, Err, ◌∙◌, ap, subst}
+use Rattle.std.specs.Prelude.{IsTrue}
 use Rattle.board.specs.Counts.{Counts, Rose}
 use Rattle.board.specs.Device.{Device}
 use Rattle.session_text.specs.declared.command.Command.{Command as View}
 use Rattle.session_text.specs.declared.fault.LineEnd.{LineEnd}
 use Rattle.session_text.specs.declared.fault.LineEnd.TheVariants as ends
 use Rattle.session_text.specs.declared.fault.LineFault.{LineFault}
-use Rattle.session_text.specs.Lending.{MovesOn, Reader, Tells, next_at, octets_read}
+use Rattle.session_text.specs.Lending.{MovesOn, Reader, Tells, next_at}
 use Rattle.session_text.specs.Shown.{command_of}
-use Rattle.session_text.specs.Text.{Read, size_of_next}
+use Rattle.session_text.specs.Text.{size_of_next}
 use Rattle.station.specs.declared.ending.Ending.TheVariants.{Done, BadLine, SourceFault}
 use Rattle.station.specs.Session.{Carried, Ended}
 use Rattle.station.specs.Table.{Table}

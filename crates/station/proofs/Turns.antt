@@ -1,5 +1,5 @@
 -- A session, one turn further, and what each of its endings says.
-use Rattle.std.proofs.Common.{◌≡◌, ◌≢◌, ◌⊎◌, inl, inr, ℕ, Bool, true, false, ◌+◌, ◌-◌, ◌≤◌, List, [], ◌∷◌, ◌++◌, length, take, drop, Some, None, refl, sym, ◌∙◌, ap, subst, arith, append_assoc}
+use Rattle.std.proofs.Common.{◌≡◌, ◌≢◌, ℕ, Bool, true, ◌+◌, ◌≤◌, List, [], ◌∷◌, ◌++◌, length, take, drop, Some, None, refl, sym, ◌∙◌, ap, subst, arith, append_assoc}
 use Rattle.std.proofs.lemmas.List.{append-nil, take_at}
 use Rattle.std.specs.Prelude.{Contains, IsTrue}
 use Rattle.board.specs.Counts.{Counts, Rose}
@@ -14,7 +14,7 @@ use Rattle.session_text.specs.Text.{Read, Bad, End, bad_read, commands_of, comma
 use Rattle.session_text.proofs.Progressing.{has_read_bad, has_read_end, has_read_more, has_read_none, has_read_taken, has_read_unended, taken_is}
 use Rattle.station.specs.declared.ending.Ending.{Ending}
 use Rattle.station.specs.declared.ending.Ending.TheVariants.{Done, BadWords, BadLine, LinkFault, SourceFault, NoMemory}
-use Rattle.station.specs.Run.{lines_of, run, step}
+use Rattle.station.specs.Run.{lines_of, step}
 use Rattle.station.specs.Session.{Carried, Ended, EndsReading, EndsSending, IsStart, MayBeSent, lines_for, read_of, taken_of, text_limit}
 use Rattle.station.specs.Table.{Table, after_format}
 use Rattle.station.proofs.Runs.{lines-prefix, run-more_lines, run-more_table}

@@ -1,9 +1,8 @@
 -- A session: what it has carried out so far, and what its ending says.
-use Rattle.std.specs.Prelude.{◌≡◌, ◌≢◌, ◌⊎◌, ◌≤◌, ◌-◌, ◌++◌, ℕ, Bool, true, List, [], length, take, IsTrue, Option, Some, None, MatchOption, ⊤}
+use Rattle.std.specs.Prelude.{◌≡◌, ◌≢◌, ◌⊎◌, ◌≤◌, ◌-◌, ◌++◌, ℕ, Bool, true, List, [], length, take, IsTrue, Some, None, MatchOption, ⊤}
 use Rattle.board.specs.Counts.{Counts, Rose}
 use Rattle.board.specs.Device.{Device}
 use Rattle.board.specs.Moments.{GainsFront, SendsOnly}
-use Rattle.session_text.specs.declared.fault.LineFault.{LineFault}
 use Rattle.session_text.specs.Command.{Command}
 use Rattle.session_text.specs.Lending.{Reader}
 use Rattle.session_text.specs.Progress.{HasRead}
