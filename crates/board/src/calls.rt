@@ -9,6 +9,7 @@ pub enum CallKind {
     Send,
 }
 
+/// The calls of one kind.
 #[derive(Drop)]
 pub struct Calls {
     pub made: u64,
@@ -16,6 +17,7 @@ pub struct Calls {
 }
 
 impl Calls {
+    /// No call was made, and none is to fail.
     pub fn new(alloc: Global) -> Self
         ensures made { result.made ≡ 0 }
         ensures planned { result.planned.items ≡ [] }
@@ -26,6 +28,7 @@ impl Calls {
         }
     }
 
+    /// The call with this number, counted from 1, is to fail too.
     pub fn plan(&mut self, number: u64) -> Result<(), AllocError>
         ensures ok { OnOk result (self.new.planned.items ≡ self.old.planned.items ++ number ∷ []) }
         ensures err { OnErr result (self.new.planned.items ≡ self.old.planned.items) }

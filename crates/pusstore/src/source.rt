@@ -12,6 +12,7 @@ pub struct StdSource<R: Read + Drop> {
 }
 
 impl<R: Read + Drop> StdSource<R> {
+    /// The source that reads from `input`.
     pub fn new(input: R) -> StdSource<R> {
         StdSource { input, faults: 0 }
     }

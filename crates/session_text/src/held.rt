@@ -33,6 +33,7 @@ impl Model for Held {
 }
 
 impl Held {
+    /// Nothing is held.
     pub fn new(alloc: Global) -> Result<Held, AllocError>
         ensures { IfOk result (λ held. held ≡ []) }
     {
@@ -43,6 +44,7 @@ impl Held {
         })
     }
 
+    /// The octets that are held.
     pub fn octets(&self) -> &[u8]
         ensures octets { result.now ≡ self.now }
         ensures most { length result.now ≤ 262144 }

@@ -34,7 +34,7 @@ pub struct Lines {
     ghost room: { length packet.items ≡ 65600 },
 }
 
-// Where the first line of a text ends.
+/// Where the first line of the octets that are held ends.
 pub enum Found {
     // Its LF stands behind so many octets.
     Line(usize),
