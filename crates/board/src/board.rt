@@ -36,6 +36,7 @@ pub trait Board {
             → (sent self.new (moment self.new) ≡ sent self.old (moment self.old)) ⊎ (moment self.old < moment self.new) }
         ensures same { device self.new ≡ device self.old }
         ensures faults { (counts self.old).link_faults ≤ (counts self.new).link_faults }
+        ensures no_fault { OnOk result ((counts self.new).link_faults ≡ (counts self.old).link_faults) }
         ensures cause { OnErr result (Rose (counts self.old).link_faults (counts self.new).link_faults) };
 
     ghost enough_blocks: { (board : Self) → 16 ≤ (device board).blocks };

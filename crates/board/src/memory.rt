@@ -119,6 +119,7 @@ impl Board for MemBoard {
             ⊎ (moment_of self.old < moment_of self.new) }
         ensures same { device_of self.new ≡ device_of self.old }
         ensures faults { (counts_of self.old).link_faults ≤ (counts_of self.new).link_faults }
+        ensures no_fault { OnOk result ((counts_of self.new).link_faults ≡ (counts_of self.old).link_faults) }
         ensures cause { OnErr result
             (Rose (counts_of self.old).link_faults (counts_of self.new).link_faults) }
 

@@ -1,5 +1,5 @@
 // A text in memory. It tells what is left, and one take can be planned to fail.
-ghost use Rattle.std.specs.Prelude.{◌≡◌, ◌≤◌, ◌<◌, ◌+◌, ◌++◌, ◌↔◌, ℕ, [], length, min, take, IfOk, IsErr, IsTrue, OnErr, OnOk, Some};
+ghost use Rattle.std.specs.Prelude.{◌≡◌, ◌≤◌, ◌<◌, ◌+◌, ◌++◌, ◌↔◌, ℕ, [], drop, length, min, take, IfOk, IsErr, IsTrue, MatchResult, OnErr, OnOk, Some};
 ghost use Rattle.board.specs.Counts.{Rose};
 
 use crate::board::Failed;
@@ -62,14 +62,18 @@ impl Source for MemSource {
             → left_of self.new ≡ left_of self.old) }
         ensures same { tells_left self.new ≡ tells_left self.old }
         ensures faults { faults_of self.old ≤ faults_of self.new }
+        ensures no_fault { OnOk result (faults_of self.new ≡ faults_of self.old) }
         ensures cause { OnErr result (Rose (faults_of self.old) (faults_of self.new)) }
 
-        // It fails exactly where it is planned to, and takes all that there is room for.
+        // It fails exactly where it is planned to, and takes all that there is room for. What it
+        // does not fill of `into` stays.
         ensures counted { CountsTake self.old self.new }
         ensures planned { IsErr result ↔ (planned_take self.old ≡ Some (takes_made self.new)) }
         ensures fault { OnErr result
             (faults_of self.new ≡ min (faults_of self.old + 1) 18446744073709551615) }
-        ensures no_fault { OnOk result (faults_of self.new ≡ faults_of self.old) }
+        ensures unfilled { MatchResult result
+            (λ count. drop count into.new ≡ drop count into.old)
+            (λ failed. into.new ≡ into.old) }
         ensures exact { IfOk result (λ count.
             count ≡ min (length into.old) (length (left_of self.old))) }
     {

@@ -1,5 +1,5 @@
 // Where the octets of a text come from.
-ghost use Rattle.std.specs.Prelude.{◌≡◌, ◌≤◌, ◌<◌, ◌++◌, ◌↔◌, ℕ, [], List, Bool, length, take, IsTrue, IfOk, OnErr};
+ghost use Rattle.std.specs.Prelude.{◌≡◌, ◌≤◌, ◌<◌, ◌++◌, ◌↔◌, ℕ, [], List, Bool, length, take, IsTrue, IfOk, OnErr, OnOk};
 ghost use Rattle.board.specs.Counts.{Rose};
 
 use crate::board::Failed;
@@ -25,5 +25,6 @@ pub trait Source {
         ensures failed { OnErr result (IsTrue (tells self.old) → left self.new ≡ left self.old) }
         ensures same { tells self.new ≡ tells self.old }
         ensures faults { faults self.old ≤ faults self.new }
+        ensures no_fault { OnOk result (faults self.new ≡ faults self.old) }
         ensures cause { OnErr result (Rose (faults self.old) (faults self.new)) };
 }
