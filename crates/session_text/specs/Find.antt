@@ -15,3 +15,9 @@ OnFailed (found.Line count) P = Unit {0}
 OnFailed found.Endless P = Unit {0}
 OnFailed found.End P = Unit {0}
 OnFailed found.Failed P = P
+
+abbrev pub UnlessFailed : Found → Type 0 → Type 0
+UnlessFailed (found.Line count) P = P
+UnlessFailed found.Endless P = P
+UnlessFailed found.End P = P
+UnlessFailed found.Failed P = Unit {0}

@@ -53,6 +53,11 @@ OnSource (Ok command) P = ⊤
 OnSource (Err (ends.Bad line why)) P = ⊤
 OnSource (Err ends.Source) P = P
 
+abbrev pub UnlessSource : {X : Type 0} → Result X LineEnd → Type 0 → Type 0
+UnlessSource (Ok command) P = P
+UnlessSource (Err (ends.Bad line why)) P = P
+UnlessSource (Err ends.Source) P = ⊤
+
 -- The reader moves on behind what was read, and nothing of the text is lost.
 pub record MovesOn {X : Type 0} (old new : Reader) (told : Bool) (left_before left_after : List ℕ) (result : Result (Option X) LineEnd) : Type 0 where
   pub limit : new.limit ≡ old.limit

@@ -3,7 +3,7 @@
 // They stand together in a buffer, from `start` up to `end`. What is behind them is filled, and where
 // there is no room behind them they move to the front. At most about half of the buffer is in use when
 // it is filled, so what moves is no more than what was taken since the last move.
-ghost use Rattle.std.specs.Prelude.{◌≡◌, ◌≤◌, ◌+◌, ◌++◌, [], length, drop, IsTrue, IfOk, IfErr, OnErr};
+ghost use Rattle.std.specs.Prelude.{◌≡◌, ◌≤◌, ◌+◌, ◌++◌, [], length, drop, IsTrue, IfOk, IfErr, OnErr, OnOk};
 ghost use Rattle.board.specs.Counts.{Rose};
 ghost use Rattle.session_text.specs.Gain.{Gains};
 
@@ -69,6 +69,7 @@ impl Held {
         ensures kept { OnErr result (IsTrue (S.tells source.old) → S.left source.new ≡ S.left source.old) }
         ensures same { S.tells source.new ≡ S.tells source.old }
         ensures faults { S.faults source.old ≤ S.faults source.new }
+        ensures no_fault { OnOk result (S.faults source.new ≡ S.faults source.old) }
         ensures cause { OnErr result (Rose (S.faults source.old) (S.faults source.new)) }
     {
         if self.end == ROOM {

@@ -1,8 +1,8 @@
 // Reads a session text line by line.
-ghost use Rattle.std.specs.Prelude.{◌≡◌, ◌≤◌, ◌<◌, ◌+◌, ◌++◌, ◌^◌, [], length, drop, false, true, IsTrue, IfOk, IfSome, OnOk, OnErr, Ok, Err, MatchResult};
+ghost use Rattle.std.specs.Prelude.{◌≡◌, ◌≤◌, ◌<◌, ◌+◌, ◌++◌, ◌^◌, [], length, drop, false, true, Contains, IsTrue, IfOk, IfSome, OnOk, OnErr, Ok, Err, MatchResult};
 ghost use Rattle.std.specs.Borrow.{sem};
 ghost use Rattle.board.specs.Counts.{Rose};
-ghost use Rattle.session_text.specs.Find.{Finds, OnFailed};
+ghost use Rattle.session_text.specs.Find.{Finds, OnFailed, UnlessFailed};
 
 use crate::command::Command;
 use crate::fault::{LineEnd, LineFault};
@@ -49,9 +49,11 @@ pub enum Found {
 // Takes octets until the first line that is held is whole.
 fn find_line<S: Source>(held: &mut Held, source: &mut S) -> Found
     ensures found { Finds held.new (S.tells source.old) (S.left source.new) result }
+    ensures still { Contains held.old 10 → source.new ≡ source.old }
     ensures text { IsTrue (S.tells source.old) → held.new ++ S.left source.new ≡ held.old ++ S.left source.old }
     ensures same { S.tells source.new ≡ S.tells source.old }
     ensures faults { S.faults source.old ≤ S.faults source.new }
+    ensures no_fault { UnlessFailed result (S.faults source.new ≡ S.faults source.old) }
     ensures cause { OnFailed result (Rose (S.faults source.old) (S.faults source.new)) }
 {
     let mut seen = 0;
@@ -76,7 +78,7 @@ fn find_line<S: Source>(held: &mut Held, source: &mut S) -> Found
 }
 
 impl Lines {
-    ghost use Rattle.session_text.specs.Lending.{MovesOn, OnCommand, OnSource, RestsMoved, Tells, moved_on, next_at, reader_of, reading_held};
+    ghost use Rattle.session_text.specs.Lending.{MovesOn, OnCommand, OnSource, RestsMoved, Tells, UnlessSource, moved_on, next_at, reader_of, reading_held};
     ghost use Rattle.session_text.specs.Read.{IsHeld, command_in};
     ghost use Rattle.session_text.specs.Shown.{command_of, moment_of};
 
@@ -102,8 +104,8 @@ impl Lines {
         self.live
     }
 
-    /// The next command of the text, or None where the text ended. After an error it is not called
-    /// again.
+    /// The next command of the text, or None where the text ended. Nothing is taken from the source
+    /// where a whole line was taken before. After an error it is not called again.
     pub fn next_line<'a, S: Source>(
         &'a mut self,
         source: &mut S,
@@ -112,8 +114,10 @@ impl Lines {
         ensures* moves { sem 𝓛 (RestsMoved self.entry (S.tells source.old) (S.left source.old) (S.left source.new) result) }
         ensures next { IsTrue (S.tells source.old) → Tells command_of (reader_of self.old) (next_at (reader_of self.old) (S.left source.old)) result }
         ensures moment { IfOk result (λ command. IfSome command (λ c. moment_of c < 2 ^ 48)) }
+        ensures still { Contains (reader_of self.old).pending 10 → source.new ≡ source.old }
         ensures same { S.tells source.new ≡ S.tells source.old }
         ensures faults { S.faults source.old ≤ S.faults source.new }
+        ensures no_fault { UnlessSource result (S.faults source.new ≡ S.faults source.old) }
         ensures cause { OnSource result (Rose (S.faults source.old) (S.faults source.new)) }
     {
         let Some(form) = self.advance(source)? else {
@@ -128,8 +132,10 @@ impl Lines {
         ensures moves { MovesOn (reader_of self.old) (reader_of self.new) (S.tells source.old) (S.left source.old) (S.left source.new) result }
         ensures next { IsTrue (S.tells source.old) → Tells (command_in self.new.packet.items) (reader_of self.old) (next_at (reader_of self.old) (S.left source.old)) result }
         ensures held { IfOk result (λ form. IfSome form (IsHeld self.new.packet.items)) }
+        ensures still { Contains (reader_of self.old).pending 10 → source.new ≡ source.old }
         ensures same { S.tells source.new ≡ S.tells source.old }
         ensures faults { S.faults source.old ≤ S.faults source.new }
+        ensures no_fault { UnlessSource result (S.faults source.new ≡ S.faults source.old) }
         ensures cause { OnSource result (Rose (S.faults source.old) (S.faults source.new)) }
     {
         match find_line(&mut self.held, source) {

@@ -35,9 +35,11 @@ takes-preserved g c =
       short = c.if-seen-gt-LONGEST.false;
       within = omega (arith, front.1);
       unended = λ held. none (subst (λ (l : List ℕ). Contains l 10) (ap (λ n. take n c.fill.new.self) seen ∙ front.0) held);
+      holds = λ held. absurd (none (known.holds held));
+      still = λ held. absurd (none (known.holds held));
       text = λ told. front.2 (rw known.same told) ∙ known.text told;
       same = c.fill.ensures.same ∙ known.same;
-      faults = omega (arith, known.faults, c.fill.ensures.faults);
+      faults = c.in-Ok.ensures.no_fault ∙ known.faults;
     }
 
 pub returns-in-Err-clause-found : goal.returns-in-Err-clause-found
@@ -45,3 +47,18 @@ returns-in-Err-clause-found g c =
     let known = c.takes.invariant in
     let none = searched-none c.octets.result.now c.takes.held c.takes.seen c.octets.ensures.octets known.within known.unended c.in_default.ensures in
     λ held. none (subst (λ (l : List ℕ). Contains l 10) c.in-Err.ensures.failed held)
+
+pub returns-else-seen-eq0-clause-still : goal.returns-else-seen-eq0-clause-still
+returns-else-seen-eq0-clause-still g c held =
+    let known = c.takes.invariant in
+    absurd (searched-none c.octets.result.now c.takes.held c.takes.seen c.octets.ensures.octets known.within known.unended c.in_default.ensures (known.holds held))
+
+pub returns-then-seen-eq0-clause-still : goal.returns-then-seen-eq0-clause-still
+returns-then-seen-eq0-clause-still g c held =
+    let known = c.takes.invariant in
+    absurd (searched-none c.octets.result.now c.takes.held c.takes.seen c.octets.ensures.octets known.within known.unended c.in_default.ensures (known.holds held))
+
+pub returns-in-Err-clause-still : goal.returns-in-Err-clause-still
+returns-in-Err-clause-still g c held =
+    let known = c.takes.invariant in
+    absurd (searched-none c.octets.result.now c.takes.held c.takes.seen c.octets.ensures.octets known.within known.unended c.in_default.ensures (known.holds held))

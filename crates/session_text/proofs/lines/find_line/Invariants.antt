@@ -9,9 +9,11 @@ invariant-takes g l =
       short : l.seen ≤ 131200;
       within : l.seen ≤ length l.held;
       unended : ¬ (Contains (take l.seen l.held) 10);
+      holds : Contains l.fn.held 10 → Contains l.held 10;
+      still : Contains l.fn.held 10 → l.source ≡ l.fn.source;
       text : IsTrue (source.tells l.fn.source) → l.held ++ source.left l.source ≡ l.fn.held ++ source.left l.fn.source;
       same : source.tells l.source ≡ source.tells l.fn.source;
-      faults : source.faults l.fn.source ≤ source.faults l.source;
+      faults : source.faults l.source ≡ source.faults l.fn.source;
     }
 
 abbrev pub decreases-takes : goal.decreases-takes
