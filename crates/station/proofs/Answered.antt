@@ -46,13 +46,13 @@ module _ {S : Type 0} (tells : S → Bool) (left : S → List ℕ) (reader reade
 
   module _ {B : Type 0} (device : B → Device) (moment : B → ℕ) (sent : B → ℕ → List ℕ) (counts : B → Counts) (faults : S → ℕ) (first board : B) (origin : S) (table : Table)
       (carried : Carried device moment sent counts tells left faults first board origin source reader table) (same_tells : tells source' ≡ tells source) (from : faults source ≤ faults source') where
-    pub done_by : result ≡ Ok None → Ended device moment sent counts tells left faults first board origin source' Done
-    done_by is = ended_done device moment sent counts tells left faults first board origin source reader table carried source' reader'.pending (at_end is) same_tells from (next_as (Ok None) is)
+    pub done_by : result ≡ Ok None → faults source' ≡ faults source → Ended device moment sent counts tells left faults first board origin source' Done
+    done_by is kept = ended_done device moment sent counts tells left faults first board origin source reader table carried source' reader'.pending (at_end is) same_tells from kept (next_as (Ok None) is)
 
-    pub bad_by : (line : ℕ) (why : LineFault) → result ≡ Err (ends.Bad line why) → Ended device moment sent counts tells left faults first board origin source' (BadLine line why)
-    bad_by line why is =
+    pub bad_by : (line : ℕ) (why : LineFault) → result ≡ Err (ends.Bad line why) → faults source' ≡ faults source → Ended device moment sent counts tells left faults first board origin source' (BadLine line why)
+    bad_by line why is kept =
         ended_bad device moment sent counts tells left faults first board origin source reader table carried source' reader'.pending line why
-        (at_error (ends.Bad line why) is) same_tells from (next_as (Err (ends.Bad line why)) is)
+        (at_error (ends.Bad line why) is) same_tells from kept (next_as (Err (ends.Bad line why)) is)
 
     pub source_by : result ≡ Err ends.Source → Rose (faults source) (faults source') → Ended device moment sent counts tells left faults first board origin source' SourceFault
     source_by is rose =

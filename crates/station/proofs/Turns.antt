@@ -70,8 +70,8 @@ carried_none device moment sent counts tells left faults board source reader tab
   moments = λ link. started moment sent board (GainsFront (sent board (moment board)) []) (gains_none (sent board (moment board)) []);
   same_device = refl;
   same_tells = refl;
-  link_faults = omega arith;
-  source_faults = omega arith;
+  link_faults = refl;
+  source_faults = refl;
 }
 
 module _ {B S : Type 0} (device : B → Device) (moment : B → ℕ) (sent : B → ℕ → List ℕ) (counts : B → Counts) (tells : S → Bool) (left : S → List ℕ) (faults : S → ℕ)
@@ -80,9 +80,9 @@ module _ {B S : Type 0} (device : B → Device) (moment : B → ℕ) (sent : B �
   pub ended_quietly : (source' : S) (ending : Ending) (pending : List ℕ) → (IsTrue (tells source) → pending ++ left source' ≡ reader.pending ++ left source)
       → tells source' ≡ tells source → faults source ≤ faults source' → ending ≢ BadWords
       → (IsTrue (tells origin) → EndsReading (left origin) (left source') ending) → (IsTrue (tells origin) → EndsSending (left origin) (left source') (lines_for carried.done) ending)
-      → ending ≢ LinkFault → (ending ≡ SourceFault → Rose (faults source) (faults source'))
+      → ending ≢ LinkFault → (ending ≡ SourceFault → Rose (faults source) (faults source')) → (ending ≢ SourceFault → faults source' ≡ faults source)
       → Ended device moment sent counts tells left faults first board origin source' ending
-  ended_quietly source' ending pending same same_tells from known reading sending unlinked cause = record {
+  ended_quietly source' ending pending same same_tells from known reading sending unlinked cause kept = record {
     known = known;
     taken = λ told. (so_far told).split;
     reading = reading;
@@ -92,10 +92,12 @@ module _ {B S : Type 0} (device : B → Device) (moment : B → ℕ) (sent : B �
         (λ octets gains. may_be_sent (sent first (moment first)) octets carried.done (read_of (left origin) (left source')) gains
         (λ told. lines_front (left origin) (left source') carried.done (so_far told)));
     link_cause = λ is. absurd (unlinked is);
-    source_cause = λ is. rose_since (faults origin) (faults source) (faults source') carried.source_faults (cause is);
+    source_cause = λ is. rose_since (faults origin) (faults source) (faults source') (omega (arith, carried.source_faults)) (cause is);
+    link_kept = λ is. carried.link_faults;
+    source_kept = λ is. kept is ∙ carried.source_faults;
     same_device = carried.same_device;
     same_tells = same_tells ∙ carried.same_tells;
-    link_faults = carried.link_faults;
+    link_faults = omega (arith, carried.link_faults);
     source_faults = omega (arith, carried.source_faults, from);
   }
     where
@@ -103,13 +105,13 @@ module _ {B S : Type 0} (device : B → Device) (moment : B → ℕ) (sent : B �
       so_far told = taken (left origin) carried.done reader (left source) pending (left source') carried.limit (carried.read told) (same (carried.same_tells ∙ told))
 
   pub ended_done : (source' : S) (pending : List ℕ) → (IsTrue (tells source) → pending ++ left source' ≡ reader.pending ++ left source)
-      → tells source' ≡ tells source → faults source ≤ faults source' → (IsTrue (tells source) → next_at reader (left source) ≡ End)
+      → tells source' ≡ tells source → faults source ≤ faults source' → faults source' ≡ faults source → (IsTrue (tells source) → next_at reader (left source) ≡ End)
       → Ended device moment sent counts tells left faults first board origin source' Done
-  ended_done source' pending same same_tells from next =
+  ended_done source' pending same same_tells from kept next =
       ended_quietly source' Done pending same same_tells from (λ is. cc)
       (λ told. (subst (λ (limit : ℕ). first_bad limit (left origin) ≡ None) carried.limit (at_end told).1, none_left pending (left source') (same (carried.same_tells ∙ told) ∙ (at_end told).2)))
       (λ told. ap lines_for (sym (subst (λ (limit : ℕ). commands_of limit (left origin) ≡ carried.done) carried.limit (at_end told).0)))
-      (λ is. cc) (λ is. absurd cc)
+      (λ is. cc) (λ is. absurd cc) (λ is. kept)
     where
       at_end : IsTrue (tells origin) → (commands_of reader.limit (left origin) ≡ carried.done) × (first_bad reader.limit (left origin) ≡ None) × (reader.pending ++ left source ≡ [])
       at_end told = has_read_end (left origin) carried.done reader (left source) (carried.read told) (next (carried.same_tells ∙ told))
@@ -119,13 +121,13 @@ module _ {B S : Type 0} (device : B → Device) (moment : B → ℕ) (sent : B �
       none_left (x ∷ xs) ys is = absurd cc
 
   pub ended_bad : (source' : S) (pending : List ℕ) (line : ℕ) (why : LineFault) → (IsTrue (tells source) → pending ++ left source' ≡ reader.pending ++ left source)
-      → tells source' ≡ tells source → faults source ≤ faults source' → (IsTrue (tells source) → (next_at reader (left source) ≡ Bad why) × (line ≡ reader.number + 1))
+      → tells source' ≡ tells source → faults source ≤ faults source' → faults source' ≡ faults source → (IsTrue (tells source) → (next_at reader (left source) ≡ Bad why) × (line ≡ reader.number + 1))
       → Ended device moment sent counts tells left faults first board origin source' (BadLine line why)
-  ended_bad source' pending line why same same_tells from next =
+  ended_bad source' pending line why same same_tells from kept next =
       ended_quietly source' (BadLine line why) pending same same_tells from (λ is. cc)
       (λ told. subst (λ (limit : ℕ). first_bad limit (left origin) ≡ Some (line, why)) carried.limit ((at_bad told).1 ∙ ap (λ (n : ℕ). Some (n, why)) (sym (next (carried.same_tells ∙ told)).1)))
       (λ told. ap lines_for (sym (subst (λ (limit : ℕ). commands_of limit (left origin) ≡ carried.done) carried.limit (at_bad told).0)))
-      (λ is. cc) (λ is. absurd cc)
+      (λ is. cc) (λ is. absurd cc) (λ is. kept)
     where
       at_bad : IsTrue (tells origin) → (commands_of reader.limit (left origin) ≡ carried.done) × (first_bad reader.limit (left origin) ≡ Some (reader.number + 1, why))
       at_bad told = has_read_bad (left origin) carried.done reader (left source) why (carried.read told) (next (carried.same_tells ∙ told)).0
@@ -137,7 +139,7 @@ module _ {B S : Type 0} (device : B → Device) (moment : B → ℕ) (sent : B �
       ended_quietly source' SourceFault pending same same_tells from (λ is. cc)
       (λ told. subst (λ (octets : List ℕ). bad_read text_limit octets ≡ None) (sym (is_taken told)) (subst (λ (limit : ℕ). bad_read limit (whole told).0 ≡ None) carried.limit (whole told).3))
       (λ told. ap lines_for (sym (subst (λ (octets : List ℕ). commands_read text_limit octets ≡ carried.done) (sym (is_taken told)) (subst (λ (limit : ℕ). commands_read limit (whole told).0 ≡ carried.done) carried.limit (whole told).2))))
-      (λ is. cc) (λ is. rose)
+      (λ is. cc) (λ is. rose) (λ other. absurd (other refl))
     where
       whole : IsTrue (tells origin) → (octets : List ℕ) × (left origin ≡ octets ++ left source') × (commands_read reader.limit octets ≡ carried.done) × (bad_read reader.limit octets ≡ None)
       whole told = has_read_unended (left origin) carried.done reader (left source) (carried.read told) pending (left source') (same (carried.same_tells ∙ told)) unended
@@ -147,7 +149,7 @@ module _ {B S : Type 0} (device : B → Device) (moment : B → ℕ) (sent : B �
 
   -- one command further
   module _ (board' : B) (source' : S) (reader' : Reader) (command : Command) (advances : Advances tells left reader reader' source source' command)
-      (same_tells : tells source' ≡ tells source) (from : faults source ≤ faults source')
+      (same_tells : tells source' ≡ tells source) (unfailed : faults source' ≡ faults source)
       (same_device : device board' ≡ device board) (link_from : (counts board).link_faults ≤ (counts board').link_faults)
       (sends : IsTrue (device board).tells_link → (number : ℕ) → SendsOnly moment sent board board' (GainsFront (sent board (moment board)) (lines_of (step number command table).outputs))) where
     read_on : IsTrue (tells origin) → HasRead (left origin) (carried.done ++ command ∷ []) reader' (left source')
@@ -180,9 +182,9 @@ module _ {B S : Type 0} (device : B → Device) (moment : B → ℕ) (sent : B �
     -- an ending within the command
     pub ended_within : (ending : Ending) → ending ≢ BadWords → (IsTrue (tells origin) → EndsReading (left origin) (left source') ending)
         → (IsTrue (device first).tells_link → IsTrue (tells origin) → (gained : List ℕ) × (sent board' (moment board') ≡ sent first (moment first) ++ gained) × EndsSending (left origin) (left source') gained ending)
-        → (ending ≡ LinkFault → Rose (counts board).link_faults (counts board').link_faults) → ending ≢ SourceFault
+        → (ending ≡ LinkFault → Rose (counts board).link_faults (counts board').link_faults) → (ending ≢ LinkFault → (counts board').link_faults ≡ (counts board).link_faults) → ending ≢ SourceFault
         → Ended device moment sent counts tells left faults first board' origin source' ending
-    ended_within ending known reading sending cause unsourced = record {
+    ended_within ending known reading sending cause kept unsourced = record {
       known = known;
       taken = λ told. (taken_on told).split;
       reading = reading;
@@ -191,24 +193,26 @@ module _ {B S : Type 0} (device : B → Device) (moment : B → ℕ) (sent : B �
           (GainsFront (sent first (moment first)) (lines_for (carried.done ++ command ∷ []))) (moments_on link)
           (λ octets gains. may_be_sent (sent first (moment first)) octets (carried.done ++ command ∷ []) (read_of (left origin) (left source')) gains
           (λ told. lines_front (left origin) (left source') (carried.done ++ command ∷ []) (taken_on told)));
-      link_cause = λ is. rose_since (counts first).link_faults (counts board).link_faults (counts board').link_faults carried.link_faults (cause is);
+      link_cause = λ is. rose_since (counts first).link_faults (counts board).link_faults (counts board').link_faults (omega (arith, carried.link_faults)) (cause is);
       source_cause = λ is. absurd (unsourced is);
+      link_kept = λ is. kept is ∙ carried.link_faults;
+      source_kept = λ is. unfailed ∙ carried.source_faults;
       same_device = same_device ∙ carried.same_device;
       same_tells = same_tells ∙ carried.same_tells;
       link_faults = omega (arith, carried.link_faults, link_from);
-      source_faults = omega (arith, carried.source_faults, from);
+      source_faults = omega (arith, carried.source_faults, unfailed);
     }
 
     -- there was no memory for the command
-    pub ended_memory : (IsTrue (device board).tells_link → sent board' (moment board') ≡ sent board (moment board)) → Ended device moment sent counts tells left faults first board' origin source' NoMemory
-    ended_memory unsent =
+    pub ended_memory : (counts board').link_faults ≡ (counts board).link_faults → (IsTrue (device board).tells_link → sent board' (moment board') ≡ sent board (moment board)) → Ended device moment sent counts tells left faults first board' origin source' NoMemory
+    ended_memory kept unsent =
         ended_within NoMemory (λ is. cc) (λ told. tt)
         (λ link told. (
           lines_for carried.done,
           unsent (links_too carried.same_device link) ∙ carried.gained link,
           (length carried.done, ap lines_for (sym (first_of told))),
         ))
-        (λ is. absurd cc) (λ is. cc)
+        (λ is. absurd cc) (λ is. kept) (λ is. cc)
       where
         first_of : IsTrue (tells origin) → take (length carried.done) (read_of (left origin) (left source')) ≡ carried.done
         first_of told =
@@ -222,14 +226,14 @@ module _ {B S : Type 0} (device : B → Device) (moment : B → ℕ) (sent : B �
         (λ link told.
         let now = (moments_on link).each (moment board') (moments_on link).later (omega arith) in
         (now.front, now.gained, tt))
-        (λ is. rose) (λ is. cc)
+        (λ is. rose) (λ other. absurd (other refl)) (λ is. cc)
 
     -- the command was carried out
-    pub goes_further : (table' : Table) → ((number : ℕ) → table' ≡ (step number command table).table)
+    pub goes_further : (counts board').link_faults ≡ (counts board).link_faults → (table' : Table) → ((number : ℕ) → table' ≡ (step number command table).table)
         → (IsTrue (device board).tells_link → (number : ℕ) → sent board' (moment board') ≡ sent board (moment board) ++ lines_of (step number command table).outputs)
         → Carried device moment sent counts tells left faults first board' origin source' reader' table'
     unfolding line
-    goes_further table' stands gained = record {
+    goes_further kept table' stands gained = record {
       done = carried.done ++ command ∷ [];
       live = advances.live;
       limit = advances.limit ∙ carried.limit;
@@ -242,6 +246,6 @@ module _ {B S : Type 0} (device : B → Device) (moment : B → ℕ) (sent : B �
       moments = moments_on;
       same_device = same_device ∙ carried.same_device;
       same_tells = same_tells ∙ carried.same_tells;
-      link_faults = omega (arith, carried.link_faults, link_from);
-      source_faults = omega (arith, carried.source_faults, from);
+      link_faults = kept ∙ carried.link_faults;
+      source_faults = unfailed ∙ carried.source_faults;
     }

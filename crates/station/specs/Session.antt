@@ -78,8 +78,8 @@ module _ {B S : Type 0} (device : B → Device) (moment : B → ℕ) (sent : B �
     pub moments : IsTrue (device board).tells_link → SendsOnly moment sent board board' (GainsFront (sent board (moment board)) (lines_for done))
     pub same_device : device board' ≡ device board
     pub same_tells : tells source' ≡ tells source
-    pub link_faults : (counts board).link_faults ≤ (counts board').link_faults
-    pub source_faults : faults source ≤ faults source'
+    pub link_faults : (counts board').link_faults ≡ (counts board).link_faults
+    pub source_faults : faults source' ≡ faults source
 
   -- A session that began with the first board and source ended so with the others.
   pub record Ended (board board' : B) (source source' : S) (ending : Ending) : Type 0 where
@@ -92,6 +92,8 @@ module _ {B S : Type 0} (device : B → Device) (moment : B → ℕ) (sent : B �
         → SendsOnly moment sent board board' (MayBeSent (tells source) (read_of (left source) (left source')) (sent board (moment board)))
     pub link_cause : ending ≡ LinkFault → Rose (counts board).link_faults (counts board').link_faults
     pub source_cause : ending ≡ SourceFault → Rose (faults source) (faults source')
+    pub link_kept : ending ≢ LinkFault → (counts board').link_faults ≡ (counts board).link_faults
+    pub source_kept : ending ≢ SourceFault → faults source' ≡ faults source
     pub same_device : device board' ≡ device board
     pub same_tells : tells source' ≡ tells source
     pub link_faults : (counts board).link_faults ≤ (counts board').link_faults

@@ -1,6 +1,6 @@
 // A session over a device and a text in memory, which tell all: the premises of `station` are met.
 ghost use Rattle.std.specs.Prelude.{◌≤◌, IfOk};
-ghost use Rattle.station.specs.Rehearsal.{Rehearsed};
+ghost use Rattle.station.specs.Rehearsal.{Rehearsed, Untouched};
 ghost use Rattle.station.specs.Words.{AreFresh, texts_of};
 
 use crate::ending::Ending;
@@ -25,8 +25,10 @@ pub fn rehearse(
 ) -> Result<Rehearsal, AllocError>
     requires least { 16 ≤ blocks }
     requires most { blocks ≤ 512 }
-    ensures { IfOk result (λ rehearsal. AreFresh (texts_of words.now)
-        → Rehearsed text.items rehearsal.ending rehearsal.board rehearsal.source) }
+    ensures fresh { IfOk result (λ rehearsal. AreFresh (texts_of words.now)
+        → Rehearsed blocks text.items rehearsal.ending rehearsal.board rehearsal.source) }
+    ensures other_words { IfOk result (λ rehearsal. ¬ (AreFresh (texts_of words.now))
+        → Untouched blocks text.items rehearsal.ending rehearsal.board rehearsal.source) }
 {
     let mut board = MemBoard::new(alloc, blocks)?;
     let mut source = MemSource::new(text);

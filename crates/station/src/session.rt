@@ -8,7 +8,7 @@ ghost use Rattle.station.specs.Boot.{table_of};
 ghost use Rattle.station.specs.Rules.{grant};
 ghost use Rattle.station.specs.Run.{lines_of, step};
 ghost use Rattle.station.specs.Session.{Carried, Ended, EndsAsTold, EndsReading, EndsSending, IsStart, MayBeSent, read_of, taken_of};
-ghost use Rattle.station.specs.Stops.{OnLink, OnNoMemory};
+ghost use Rattle.station.specs.Stops.{OnLink, OnNoMemory, UnlessLink};
 ghost use Rattle.station.specs.Table.{after_format};
 ghost use Rattle.station.specs.Words.{AreFresh, texts_of};
 
@@ -41,6 +41,7 @@ fn send_next<B: Board>(store: &mut BootStore, line: &mut [u8], board: &mut B) ->
         → SendsOnly B.moment B.sent board.old board.new (GainsFront (B.sent board.old (B.moment board.old)) (lines_of (grant number (table_of store.old)).outputs)) }
     ensures same { B.device board.new ≡ B.device board.old }
     ensures faults { (B.counts board.old).link_faults ≤ (B.counts board.new).link_faults }
+    ensures no_fault { OnOk result ((B.counts board.new).link_faults ≡ (B.counts board.old).link_faults) }
     ensures cause { OnErr result (Rose (B.counts board.old).link_faults (B.counts board.new).link_faults) }
 {
     let Some(packet) = store.next() else {
@@ -69,6 +70,7 @@ fn carry_out<B: Board>(
         → SendsOnly B.moment B.sent board.old board.new (GainsFront (B.sent board.old (B.moment board.old)) (lines_of (step number (command_of command.entry) (table_of store.old)).outputs)) }
     ensures same { B.device board.new ≡ B.device board.old }
     ensures faults { (B.counts board.old).link_faults ≤ (B.counts board.new).link_faults }
+    ensures no_fault { UnlessLink result ((B.counts board.new).link_faults ≡ (B.counts board.old).link_faults) }
     ensures cause { OnLink result (Rose (B.counts board.old).link_faults (B.counts board.new).link_faults) }
 {
     match command {
@@ -160,9 +162,11 @@ pub fn station<B: Board, S: Source>(
     ensures any_moment { IsTrue (B.device board.old).tells_link → SendsOnly B.moment B.sent board.old board.new
         (MayBeSent (S.tells source.old) (read_of (S.left source.old) (S.left source.new)) (B.sent board.old (B.moment board.old))) }
 
-    // Where an ending comes from.
+    // Where an ending comes from, and that no failure is kept quiet.
     ensures link_cause { result ≡ Ending.LinkFault → Rose (B.counts board.old).link_faults (B.counts board.new).link_faults }
     ensures source_cause { result ≡ Ending.SourceFault → Rose (S.faults source.old) (S.faults source.new) }
+    ensures no_fault { (¬ (result ≡ Ending.LinkFault) → (B.counts board.new).link_faults ≡ (B.counts board.old).link_faults)
+        × (¬ (result ≡ Ending.SourceFault) → S.faults source.new ≡ S.faults source.old) }
     ensures complete { AreFresh (texts_of words.now) → IsTrue (S.tells source.old)
         → ¬ (Rose (B.counts board.old).link_faults (B.counts board.new).link_faults) → ¬ (Rose (S.faults source.old) (S.faults source.new))
         → EndsAsTold (S.left source.old) result }
