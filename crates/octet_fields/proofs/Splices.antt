@@ -1,9 +1,11 @@
 -- What a write at a place of a slice leaves, and several of them one after another.
-use Rattle.std.proofs.Common.{◌≡◌, ℕ, ◌+◌, ◌-◌, ◌<◌, ◌≤◌, List, [], ◌∷◌, ◌++◌, length, set, take, drop, refl, sym, ap, ◌∙◌, append_assoc, arith, length-append, length-take, length-drop}
+use Rattle.std.proofs.Common.{◌≡◌, ℕ, ◌+◌, ◌-◌, ◌^◌, ◌<◌, ◌≤◌, List, [], ◌∷◌, ◌++◌, length, set, take, drop, refl, sym, ap, ◌∙◌, append_assoc, arith, zero-add, length-append, length-take, length-drop}
 use Rattle.std.proofs.lemmas.List.{take-append-drop, take-append-le, take_all, drop-drop, drop-take, take-set, drop-set}
-use Rattle.std.proofs.Math.Seq.{drop-append-add}
+use Rattle.std.proofs.Math.Seq.{drop-append-add, drop-append_seam}
 use Rattle.std.specs.List.{splice}
-use Rattle.octet_fields.specs.Fields.{Writes}
+use Rattle.byteorder.specs.Endian.{big_bytes, big_number}
+use Rattle.byteorder.specs.Numbers.{big_number-reads_back}
+use Rattle.octet_fields.specs.Fields.{Writes, field}
 use borrow.Rule.Slice.PartMut.{put_mid, mid_of}
 
 -- the end of a front and what follows it
@@ -77,3 +79,20 @@ Writes-part a k xs zs part room fits e = record {
   room = room;
   after = put_mid-front a k (length zs) xs zs part fits e;
 }
+
+-- what was written stands at its place
+pub drop-Writes : {old new ys : List ℕ} {at : ℕ} → Writes old new at ys → drop at new ≡ ys ++ drop (at + length ys) old
+drop-Writes {old} {new} {ys} {at} w =
+    let room = w.room in
+    let len : length (take at old) ≡ at = omega (arith, length-take at old) in
+    ap (drop at) w.after ∙ ap (λ j. drop j (splice old at (at + length ys) ys)) (sym len)
+    ∙ drop-append_seam (take at old) (ys ++ drop (at + length ys) old)
+
+-- a number that was written is read back
+pub field-Writes : (old new : List ℕ) (at n number : ℕ) → number < 256 ^ n → Writes old new at (big_bytes n number) → field n at new ≡ number
+field-Writes old new at n number fits w =
+    ap (big_number n) (drop-Writes w) ∙ big_number-reads_back n number (drop (at + length (big_bytes n number)) old) fits
+
+-- a write at the front
+pub front-Writes : {old new ys : List ℕ} → Writes old new 0 ys → new ≡ ys ++ drop (length ys) old
+front-Writes {old} {new} {ys} w = w.after ∙ ap (λ j. ys ++ drop j old) (zero-add (length ys))

@@ -2,6 +2,7 @@
 use Rattle.std.specs.Prelude.{◌≡◌, ◌≤◌, ℕ, ◌+◌, List, length, drop}
 use Rattle.std.specs.List.{splice}
 use Rattle.byteorder.specs.Endian.{big_number}
+pub use Rattle.byteorder.specs.Endian.{big_bytes}
 
 -- the number in the n octets at the place `at`
 abbrev pub field : ℕ → ℕ → List ℕ → ℕ

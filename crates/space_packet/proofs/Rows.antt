@@ -1,6 +1,7 @@
 -- Small worked inputs, which the definitions compute.
 use Rattle.std.proofs.Common.{◌≡◌, ℕ, true, false, List, [], ◌∷◌, Some, None, refl}
 use Rattle.std.specs.Prelude.{replicate}
+use Rattle.space_packet.specs.Header.{header_of}
 use Rattle.space_packet.specs.Packet.{apid_of, fault_of, has_secondary, is_command, said_length, sequence_count_of, sequence_flags_of}
 use Rattle.space_packet.specs.declared.fault.PacketFault.TheVariants.{Short, Version, TooLarge, Long}
 
@@ -31,6 +32,13 @@ flags = refl
 
 count : sequence_count_of packet ≡ 5
 count = refl
+
+-- headers as they are written
+telemetry_header : header_of (record { command = false; secondary = true; apid = 100; flags = 3; count = 258; length = 13 }) ≡ 8 ∷ 100 ∷ 193 ∷ 2 ∷ 0 ∷ 13 ∷ []
+telemetry_header = refl
+
+command_header : header_of (record { command = true; secondary = false; apid = 2047; flags = 1; count = 16383; length = 65535 }) ≡ 23 ∷ 255 ∷ 127 ∷ 255 ∷ 255 ∷ 255 ∷ []
+command_header = refl
 
 -- the first fault is told: too few octets, another version, a length that is too large, and octets behind
 no_octets : fault_of [] ≡ Some (Short 0 6)

@@ -1,3 +1,4 @@
 pub mod Charge
+pub mod Header
 pub mod Packet
 pub mod View

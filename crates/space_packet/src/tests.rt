@@ -42,6 +42,31 @@ fn the_fields_are_those_of_the_header(rt: HostRuntime) {
 }
 
 #[test]
+fn a_header_is_written_in_front(rt: HostRuntime) {
+    let mut octets = [0xaa_u8; 7];
+    let head = Primary {
+        command: false,
+        secondary: true,
+        apid: 100,
+        flags: 3,
+        count: 258,
+        length: 13,
+    };
+    write_primary(head, &mut octets);
+    assert!(rt; octets == [0x08, 0x64, 0xc1, 0x02, 0, 0x0d, 0xaa]);
+    let head = Primary {
+        command: true,
+        secondary: false,
+        apid: 2047,
+        flags: 1,
+        count: 16383,
+        length: 65535,
+    };
+    write_primary(head, &mut octets);
+    assert!(rt; octets == [0x17, 0xff, 0x7f, 0xff, 0xff, 0xff, 0xaa]);
+}
+
+#[test]
 fn the_first_fault_is_named(rt: HostRuntime) -> Result<(), Fail> {
     let short = |have, need| Some(PacketFault::Short { have, need });
     let long = |have, need| Some(PacketFault::Long { have, need });
