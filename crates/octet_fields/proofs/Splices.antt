@@ -1,5 +1,5 @@
 -- What a write at a place of a slice leaves, and several of them one after another.
-use Rattle.std.proofs.Common.{◌≡◌, ℕ, ◌+◌, ◌-◌, ◌^◌, ◌<◌, ◌≤◌, List, [], ◌∷◌, ◌++◌, length, set, take, drop, refl, sym, ap, ◌∙◌, append_assoc, arith, zero-add, length-append, length-take, length-drop}
+use Rattle.std.proofs.Common.{◌≡◌, ℕ, ◌+◌, ◌-◌, ◌^◌, ◌<◌, ◌≤◌, List, [], ◌∷◌, ◌++◌, length, set, take, drop, refl, sym, ap, ◌∙◌, append_assoc, arith, length-append, length-take, length-drop}
 use Rattle.std.proofs.lemmas.List.{take-append-drop, take-append-le, take_all, drop-drop, drop-take, take-set, drop-set}
 use Rattle.std.proofs.Math.Seq.{drop-append-add, drop-append_seam}
 use Rattle.std.specs.List.{splice}
@@ -92,7 +92,3 @@ drop-Writes {old} {new} {ys} {at} w =
 pub field-Writes : (old new : List ℕ) (at n number : ℕ) → number < 256 ^ n → Writes old new at (big_bytes n number) → field n at new ≡ number
 field-Writes old new at n number fits w =
     ap (big_number n) (drop-Writes w) ∙ big_number-reads_back n number (drop (at + length (big_bytes n number)) old) fits
-
--- a write at the front
-pub front-Writes : {old new ys : List ℕ} → Writes old new 0 ys → new ≡ ys ++ drop (length ys) old
-front-Writes {old} {new} {ys} w = w.after ∙ ap (λ j. ys ++ drop j old) (zero-add (length ys))

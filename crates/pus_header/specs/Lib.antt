@@ -1,0 +1,4 @@
+pub mod Commands
+pub mod Keys
+pub mod Reports
+pub mod View

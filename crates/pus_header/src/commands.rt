@@ -1,0 +1,73 @@
+// Telecommands, as views of their packets.
+ghost use Rattle.std.specs.Prelude.{◌≡◌, take, drop};
+ghost use Rattle.space_packet.specs.View.{octets_of};
+ghost use Rattle.pus_header.specs.Commands.{IsCommandPacket, acks_of, service_of, source_of, subtype_of};
+
+use octet_fields::u16_at;
+use space_packet::PacketView;
+
+/// The octets of a telecommand's two headers.
+pub(crate) const HEADERS: usize = 11;
+
+/// A telecommand packet with a whole secondary header of PUS version 2 (ECSS-E-ST-70-41C, 7.4.4).
+#[derive(Clone, Copy)]
+pub struct TcView<'a> {
+    packet: PacketView<'a>,
+    ghost header: { IsCommandPacket (octets_of packet) },
+}
+
+impl<'a> TcView<'a> {
+    ghost use Rattle.pus_header.specs.View.{command_octets};
+
+    /// The view of a packet that is known to be a telecommand.
+    pub fn new(packet: PacketView<'a>) -> TcView<'a>
+        requires { IsCommandPacket (octets_of packet) }
+        ensures { command_octets result ≡ octets_of packet.entry }
+    {
+        TcView { packet }
+    }
+
+    /// The acknowledgement flags, below 16: of acceptance 1, start 2, progress 4, completion 8.
+    pub fn acks(&self) -> u8
+        ensures { result ≡ acks_of (command_octets self.now) }
+    {
+        self.packet.bytes()[6] % 16
+    }
+
+    /// The service type.
+    pub fn service(&self) -> u8
+        ensures { result ≡ service_of (command_octets self.now) }
+    {
+        self.packet.bytes()[7]
+    }
+
+    /// The message subtype.
+    pub fn subtype(&self) -> u8
+        ensures { result ≡ subtype_of (command_octets self.now) }
+    {
+        self.packet.bytes()[8]
+    }
+
+    /// The source identifier.
+    pub fn source(&self) -> u16
+        ensures { result ≡ source_of (command_octets self.now) }
+    {
+        u16_at(self.packet.bytes(), 9)
+    }
+
+    /// The request identifier, as reports of service 1 name it (8.1.2.1): the packet's first four
+    /// octets.
+    pub fn request_id(&self) -> [u8; 4]
+        ensures { result ≡ take 4 (command_octets self.now) }
+    {
+        let bytes = self.packet.bytes();
+        [bytes[0], bytes[1], bytes[2], bytes[3]]
+    }
+
+    /// The application data: what follows the secondary header, maybe nothing.
+    pub fn body(&self) -> &'a [u8]
+        ensures { result.now ≡ drop 11 (command_octets self.now) }
+    {
+        &self.packet.bytes()[HEADERS..]
+    }
+}
