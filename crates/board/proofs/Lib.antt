@@ -1,2 +1,7 @@
+mod Histories
+pub mod Pages
+mod Pushes
 pub mod Runs
 mod Steps
+pub mod Stops
+pub mod Works

@@ -3,6 +3,7 @@ use Rattle.std.proofs.Common.{◌≡◌, ◌≢◌, ℕ, true, List, ◌++◌, r
 use Rattle.board.specs.declared.memory.MemBoard.{MemBoard}
 use Rattle.board.specs.declared.memory_source.MemSource.{MemSource}
 use Rattle.board.specs.Counts.{Counts, Rose}
+use Rattle.board.specs.Flash.{blank}
 use Rattle.board.specs.Memory.{IsNewBoard, counts_of, moment_of, sent_at}
 use Rattle.board.specs.MemorySource.{IsNewSource, faults_of, left_of}
 use Rattle.board.specs.Moments.{IsPrefixOf, SendsOnly}
@@ -16,7 +17,7 @@ unrisen : (old new : ℕ) → old ≡ 0 → new ≡ 0 → Rose old new → ⊥
 unrisen old new was is (inl more) = absurd (omega arith)
 unrisen old new was is (inr end) = absurd (omega arith)
 
-module _ (text : List ℕ) (ending : Ending) (blocks : ℕ) (board board' : MemBoard) (source source' : MemSource) (made : IsNewBoard blocks board) (given : IsNewSource text source) where
+module _ (text : List ℕ) (ending : Ending) (blocks : ℕ) (board board' : MemBoard) (source source' : MemSource) (made : IsNewBoard blocks (λ p. blank) true board) (given : IsNewSource text source) where
   pub rehearsed : ending ≢ BadWords → left_of source ≡ taken_of (left_of source) (left_of source') ++ left_of source' → EndsReading (left_of source) (left_of source') ending
       → ((gained : List ℕ) × (sent_at board' (moment_of board') ≡ sent_at board (moment_of board) ++ gained) × EndsSending (left_of source) (left_of source') gained ending)
       → SendsOnly moment_of sent_at board board' (MayBeSent true (read_of (left_of source) (left_of source')) (sent_at board (moment_of board)))
