@@ -4,4 +4,5 @@ mod Pushes
 pub mod Runs
 mod Steps
 pub mod Stops
+mod Walks
 pub mod Works

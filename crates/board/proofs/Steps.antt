@@ -11,7 +11,7 @@ use Rattle.board.specs.History.{first_flash, flash_after, flash_after_step, sent
 use Rattle.board.specs.Kept.{Grew, Stayed}
 use Rattle.board.specs.Laws.{content_pages}
 use Rattle.board.specs.Memory.{image_at, moment_of, sent_at}
-use Rattle.board.specs.Moments.{LeavesOnly, SendsNothing, SendsOnly}
+use Rattle.board.specs.Moments.{LeavesOnly, SendsOnly}
 use Rattle.board.proofs.Pages.{image_of_content}
 
 -- one of the two happened
@@ -169,9 +169,6 @@ module _ (old new : MemBoard) (step : Step) (bytes : List ℕ) (grew : Grew step
 
       long : moment_of new ≡ moment_of old + 1
       long = grew_moment old.history new.history step bytes grew
-
-pub grew_unsent : (old new : MemBoard) (step : Step) → Grew step [] old.history new.history → SendsNothing moment_of sent_at old new
-grew_unsent old new step grew = grew_sends old new step [] grew (λ octets. octets ≡ sent_at old (moment_of old)) refl (append-nil (sent_at old (moment_of old)))
 
 pub stayed_leaves : (old new : MemBoard) (P : (ℕ → List ℕ) → Type 0) → Stayed old.history new.history
     → ((image : ℕ → List ℕ) → IsImage old.history.blocks (flash_in old.history) image → P image) → LeavesOnly moment_of image_at old new P

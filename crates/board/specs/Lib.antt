@@ -9,3 +9,4 @@ pub mod Laws
 pub mod Memory
 pub mod MemorySource
 pub mod Moments
+pub mod Stopped

@@ -8,6 +8,7 @@ use Rattle.board.specs.Device.{Device}
 use Rattle.board.specs.Flash.{Flash, IsImage}
 use Rattle.board.specs.History.{first_flash, flash_after, sent_by, torn}
 use Rattle.board.specs.Kinds.{PerKind, at_kind, changed, each, one_more}
+use Rattle.board.specs.Stopped.{firm_after}
 
 -- a device of so many blocks that tells all
 abbrev pub telling : ℕ → Device
@@ -26,6 +27,10 @@ flash_of board = flash_after board.history.steps.items (first_flash board.histor
 -- the flash as it was at a moment
 abbrev pub flash_at : MemBoard → ℕ → Flash
 flash_at board t = flash_after (take t board.history.steps.items) (first_flash board.history.first)
+
+-- what each page held when it was last firm, at a moment
+abbrev pub firm_at : MemBoard → ℕ → ℕ → List ℕ
+firm_at board t = firm_after (take t board.history.steps.items) (first_flash board.history.first)
 
 -- a stop at a moment may leave each image of the flash as it was
 abbrev pub image_at : MemBoard → ℕ → (ℕ → List ℕ) → Type 0

@@ -29,7 +29,8 @@ pub fn blank_pages(alloc: Global, count: usize) -> Result<Vec<[u8; 256]>, AllocE
     Ok(pages)
 }
 
-fn put(pages: &mut Vec<[u8; 256]>, place: usize, octets: [u8; 256])
+/// Puts a page in its place.
+pub fn put(pages: &mut Vec<[u8; 256]>, place: usize, octets: [u8; 256])
     requires { place < length pages.old.items }
     ensures count { length pages.new.items ≡ length pages.old.items }
     ensures page { get_or pages.new.items place [] ≡ octets }

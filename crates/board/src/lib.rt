@@ -11,6 +11,7 @@ mod memory_board;
 mod memory_source;
 mod source;
 mod step;
+mod stop;
 #[cfg(test)]
 mod tests;
 
@@ -20,3 +21,4 @@ pub use laws::images_are_of_the_flash;
 pub use memory::MemBoard;
 pub use memory_source::MemSource;
 pub use source::Source;
+pub use stop::Torn;

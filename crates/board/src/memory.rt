@@ -47,7 +47,7 @@ impl MemBoard {
     }
 
     // A board on which no call was made yet.
-    fn with_history(alloc: Global, history: History) -> MemBoard
+    pub(crate) fn with_history(alloc: Global, history: History) -> MemBoard
         ensures history { result.history ≡ history }
         ensures made { calls_made result ≡ each 0 }
         ensures planned { planned_calls result ≡ each [] }
