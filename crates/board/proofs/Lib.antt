@@ -1,2 +1,8 @@
+mod Histories
+pub mod Pages
+mod Pushes
 pub mod Runs
 mod Steps
+pub mod Stops
+mod Walks
+pub mod Works

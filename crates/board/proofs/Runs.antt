@@ -5,7 +5,7 @@ use Rattle.std.proofs.lemmas.Bool.{cases_lt}
 use Rattle.std.proofs.lemmas.List.{append-nil}
 use Rattle.board.specs.Counts.{Rose}
 use Rattle.board.specs.Device.{Device}
-use Rattle.board.specs.Moments.{GainsFront, IsPrefixOf, SendsOnly}
+use Rattle.board.specs.Moments.{GainsFront, IsPrefixOf, SendsNothing, SendsOnly}
 
 module _ {B : Type 0} (moment : B → ℕ) (sent : B → ℕ → List ℕ) where
   -- before the first call
@@ -39,6 +39,16 @@ module _ {B : Type 0} (moment : B → ℕ) (sent : B → ℕ → List ℕ) where
     each = λ t from to. gives (sent new t) (run.each t from to);
     past = run.past;
   }
+
+  -- a run of no calls sends nothing
+  pub sends_nothing_yet : (old : B) → SendsNothing moment sent old old
+  sends_nothing_yet old = started old (λ octets. octets ≡ sent old (moment old)) refl
+
+  -- two runs that send nothing
+  pub sends_nothing_on : (old mid new : B) → SendsNothing moment sent old mid → SendsNothing moment sent mid new → SendsNothing moment sent old new
+  sends_nothing_on old mid new first second =
+      goes_on old mid new (λ octets. octets ≡ sent old (moment old)) (λ octets. octets ≡ sent mid (moment mid)) first second
+      (λ octets same. same ∙ first.each (moment mid) first.later (omega arith))
 
 -- a count that rose in a later call rose
 pub rose_since : (old mid new : ℕ) → old ≤ mid → Rose mid new → Rose old new

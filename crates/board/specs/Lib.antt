@@ -1,6 +1,12 @@
+pub mod Calls
 pub mod Counts
 pub mod Device
+pub mod Flash
 pub mod History
+pub mod Kept
+pub mod Kinds
+pub mod Laws
 pub mod Memory
 pub mod MemorySource
 pub mod Moments
+pub mod Stopped

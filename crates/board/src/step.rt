@@ -1,7 +1,20 @@
-// What was done to a board in memory.
+// What a board in memory began with, and what was done to it since.
 
-/// A step by which a board changed: a send of that many octets.
+/// What a board held when it was made.
+#[derive(Drop)]
+pub enum First {
+    Blank,
+    Pages(Vec<[u8; 256]>),
+}
+
+/// A step by which a board changed. A torn one failed: it changed no octet, and left its pages loose
+/// and not erased.
 #[derive(Clone, Copy)]
 pub enum Step {
+    Program { place: u32, octets: [u8; 256] },
+    TornProgram { place: u32 },
+    Erase { block: u32 },
+    TornErase { block: u32 },
+    Barrier,
     Send { length: usize },
 }

@@ -4,6 +4,7 @@ use Rattle.board.specs.declared.memory.MemBoard.{MemBoard}
 use Rattle.board.specs.declared.memory_source.MemSource.{MemSource}
 use Rattle.board.specs.Counts.{Counts, Rose}
 use Rattle.board.specs.Device.{Device}
+use Rattle.board.specs.Flash.{blank}
 use Rattle.board.specs.Memory.{IsNewBoard, counts_of, device_of, moment_of, sent_at}
 use Rattle.board.specs.MemorySource.{IsNewSource, faults_of, left_of}
 use Rattle.board.specs.Moments.{IsPrefixOf, SendsOnly}
@@ -17,7 +18,7 @@ unrisen : (old new : ℕ) → old ≡ 0 → new ≡ 0 → Rose old new → ⊥
 unrisen old new was is (inl more) = absurd (omega arith)
 unrisen old new was is (inr end) = absurd (omega arith)
 
-module _ (text : List ℕ) (ending : Ending) (blocks : ℕ) (board board' : MemBoard) (source source' : MemSource) (made : IsNewBoard blocks board) (given : IsNewSource text source) where
+module _ (text : List ℕ) (ending : Ending) (blocks : ℕ) (board board' : MemBoard) (source source' : MemSource) (made : IsNewBoard blocks (λ p. blank) true board) (given : IsNewSource text source) where
   pub rehearsed : device_of board' ≡ device_of board → ending ≢ BadWords → left_of source ≡ taken_of (left_of source) (left_of source') ++ left_of source' → EndsReading (left_of source) (left_of source') ending
       → ((gained : List ℕ) × (sent_at board' (moment_of board') ≡ sent_at board (moment_of board) ++ gained) × EndsSending (left_of source) (left_of source') gained ending)
       → SendsOnly moment_of sent_at board board' (MayBeSent true (read_of (left_of source) (left_of source')) (sent_at board (moment_of board)))
@@ -44,6 +45,6 @@ module _ (text : List ℕ) (ending : Ending) (blocks : ℕ) (board board' : MemB
   pub untouched : ending ≡ BadWords → board' ≡ board → source' ≡ source → Untouched blocks text ending board' source'
   untouched is same_board same_source = record {
     refused = is;
-    blank = subst (λ (b : MemBoard). IsNewBoard blocks b) (sym same_board) made;
+    unused = subst (λ (b : MemBoard). IsNewBoard blocks (λ p. blank) true b) (sym same_board) made;
     whole = subst (λ (s : MemSource). IsNewSource text s) (sym same_source) given;
   }

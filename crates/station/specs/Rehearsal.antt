@@ -1,7 +1,8 @@
 -- What a session in memory does, with no premise left.
-use Rattle.std.specs.Prelude.{◌≡◌, ◌≢◌, ◌≤◌, ◌++◌, ℕ, List}
+use Rattle.std.specs.Prelude.{◌≡◌, ◌≢◌, ◌≤◌, ◌++◌, ℕ, true, List}
 use Rattle.board.specs.declared.memory.MemBoard.{MemBoard}
 use Rattle.board.specs.declared.memory_source.MemSource.{MemSource}
+use Rattle.board.specs.Flash.{blank}
 use Rattle.board.specs.Memory.{IsNewBoard, counts_of, device_of, moment_of, sent_at}
 use Rattle.board.specs.MemorySource.{IsNewSource, faults_of, left_of}
 use Rattle.board.specs.Moments.{IsPrefixOf}
@@ -23,5 +24,5 @@ pub record Rehearsed (blocks : ℕ) (text : List ℕ) (ending : Ending) (board :
 -- With words that are not known nothing was done on this board and source.
 pub record Untouched (blocks : ℕ) (text : List ℕ) (ending : Ending) (board : MemBoard) (source : MemSource) : Type 0 where
   pub refused : ending ≡ BadWords
-  pub blank : IsNewBoard blocks board
+  pub unused : IsNewBoard blocks (λ p. blank) true board
   pub whole : IsNewSource text source
