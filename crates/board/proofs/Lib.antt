@@ -1,6 +1,7 @@
 mod Histories
 pub mod Pages
 mod Pushes
+pub mod Reading
 pub mod Runs
 mod Steps
 pub mod Stops

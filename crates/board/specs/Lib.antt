@@ -9,4 +9,5 @@ pub mod Laws
 pub mod Memory
 pub mod MemorySource
 pub mod Moments
+pub mod Reads
 pub mod Stopped

@@ -1,0 +1,51 @@
+// The pages of an area on a board.
+ghost use Rattle.std.specs.Prelude.{◌≡◌, ◌<◌, ◌≤◌, ◌+◌, ◌*◌, length, IsTrue, OnOk, OnErr};
+ghost use Rattle.board.specs.Counts.{Rose, Works};
+ghost use Rattle.board.specs.Flash.{IsClean, IsImage, loosened, only_page, written};
+ghost use Rattle.board.specs.Moments.{LeavesOnly, SendsNothing};
+ghost use Rattle.board.specs.Reads.{ReadsOnly};
+ghost use Rattle.commit_gate.specs.Commits.{SameElsewhere};
+ghost use Rattle.commit_gate.specs.Entries.{area_of};
+
+use board::{Board, Failed};
+
+/// Two blocks in a row, seen as 512 pages: page p is page p % 256 of the block `first` + p / 256.
+#[derive(Clone, Copy, Debug, PartialEq, Eq)]
+pub struct Area {
+    /// The first block: 3 or 5.
+    pub first: u32,
+}
+
+impl Area {
+    /// Reads the page `at` into 256 octets. After `Failed`, `into` holds any octets.
+    pub fn read_page<B: Board>(self, board: &mut B, at: u32, into: &mut [u8]) -> Result<(), Failed>
+        requires first { self.first ≤ 5 }
+        requires place { at < 512 }
+        requires length { length into.old ≡ 256 }
+
+        ensures read { OnOk result (IsTrue (B.device board.old).tells_flash → into.new ≡ area_of (256 * self.first) (B.flash board.old).content at) }
+        ensures reads { ReadsOnly B.device B.flash B.moment B.images B.sent B.counts 1 board.old board.new }
+        ensures cause { OnErr result (Rose (B.counts board.old).flash_faults (B.counts board.new).flash_faults) }
+    {
+        board.read_page(self.first + at / 256, at % 256, into)
+    }
+
+    /// Programs the clean page `at` with 256 octets. Until a barrier, a stop may leave anything in it.
+    pub fn program<B: Board>(self, board: &mut B, at: u32, from: &[u8]) -> Result<(), Failed>
+        requires first { self.first ≤ 5 }
+        requires place { at < 512 }
+        requires length { length from.now ≡ 256 }
+        requires clean { IsTrue (B.device board.old).tells_flash → IsClean (B.flash board.old) (256 * self.first + at) }
+
+        ensures ok { OnOk result (IsTrue (B.device board.old).tells_flash → B.flash board.new ≡ written (only_page (256 * self.first + at)) (λ _. from.now) (B.flash board.old)) }
+        ensures others { IsTrue (B.device board.old).tells_flash → SameElsewhere (only_page (256 * self.first + at)) (B.flash board.old) (B.flash board.new) }
+        ensures leaves { IsTrue (B.device board.old).tells_flash → LeavesOnly B.moment B.images board.old board.new
+            (IsImage (B.device board.old).blocks (loosened (only_page (256 * self.first + at)) (B.flash board.old))) }
+        ensures unsent { IsTrue (B.device board.old).tells_link → SendsNothing B.moment B.sent board.old board.new }
+        ensures same { B.device board.new ≡ B.device board.old }
+        ensures work { Works 0 1 0 (B.counts board.old) (B.counts board.new) }
+        ensures cause { OnErr result (Rose (B.counts board.old).flash_faults (B.counts board.new).flash_faults) }
+    {
+        board.program(self.first + at / 256, at % 256, from)
+    }
+}

@@ -1,0 +1,67 @@
+// An entry is a gate page with its payload pages behind it.
+//
+// Gate: 256 octets, all of them 0x5a where the gate is open. Where one differs, there is no entry.
+// Payload: the entry's length in four octets, highest first, 1 to 5,116; the entry; zeros to the
+// end of the last page.
+//
+// Order of a commit: payload pages, barrier, gate page, barrier.
+// 1. The payload is firm before the gate is programmed. A gate that a stop tears may hold any
+//    octets, the open pattern among them: then it opens a whole entry.
+// 2. So the length stands in the payload and not in the gate.
+// 3. The second barrier is the moment from which a stop leaves the entry.
+ghost use Rattle.std.specs.Prelude.{◌≡◌, ◌⊎◌, ◌<◌, ◌≤◌, ◌+◌, ◌*◌, [], ◌∷◌, ◌++◌, ℕ, List, length, IsTrue, IfOk, OnOk, OnErr};
+ghost use Rattle.board.specs.Counts.{Rose, Works};
+ghost use Rattle.board.specs.Moments.{LeavesInTurn, LeavesOnly, SendsNothing};
+ghost use Rattle.commit_gate.specs.Entries.{payload_pages};
+ghost use Rattle.commit_gate.specs.Commits.{HasAllButGate, IsBefore, IsBeforeOrAfter, IsCleanFrom, SameElsewhere, Stands, entry_pages, with_entry};
+
+use crate::area::Area;
+use crate::payload::payload_pages;
+use crate::text::write_text;
+use board::{Board, Failed};
+
+const OPEN: [u8; 256] = [0x5a; 256];
+
+/// Writes an entry of 1 to 5,116 octets behind the others of an area, with its gate in the page `at`,
+/// and answers the page behind it. From `Ok` on a stop leaves it. `Failed`: a call of the board failed;
+/// the entry is then there whole or not at all.
+pub fn append<B: Board>(board: &mut B, area: Area, at: u32, entry: &[u8]) -> Result<u32, Failed>
+    requires first { (area.first ≡ 3) ⊎ (area.first ≡ 5) }
+    requires shortest { 1 ≤ length entry.now }
+    requires longest { length entry.now ≤ 5116 }
+    requires room { at + 1 + payload_pages (length entry.now) ≤ 512 }
+    requires clean { IsTrue (B.device board.old).tells_flash → IsCleanFrom (B.flash board.old) (256 * area.first) at }
+
+    ensures next { IfOk result (λ next. next ≡ at + 1 + payload_pages (length entry.now)) }
+    ensures flash { OnOk result (IsTrue (B.device board.old).tells_flash → B.flash board.new ≡ with_entry (256 * area.first) at entry.now (B.flash board.old)) }
+    ensures seen { OnOk result (IsTrue (B.device board.old).tells_flash → B.images board.new (B.moment board.new) (B.flash board.new).content) }
+
+    // From then on a stop leaves the entry, and what is behind it is clean.
+    ensures stands { OnOk result (IsTrue (B.device board.old).tells_flash → (start : ℕ) (entries : List (List ℕ)) → Stands (B.flash board.old) (256 * area.first) start entries at
+        → Stands (B.flash board.new) (256 * area.first) start (entries ++ entry.now ∷ []) (at + 1 + payload_pages (length entry.now))) }
+    ensures clean { OnOk result (IsTrue (B.device board.old).tells_flash → IsCleanFrom (B.flash board.new) (256 * area.first) (at + 1 + payload_pages (length entry.now))) }
+
+    // A stop at any moment of the call leaves the entries from before it, or those and this one.
+    ensures any_moment { IsTrue (B.device board.old).tells_flash → (start : ℕ) (entries : List (List ℕ)) → Stands (B.flash board.old) (256 * area.first) start entries at
+        → LeavesOnly B.moment B.images board.old board.new (IsBeforeOrAfter (B.device board.old).blocks (B.flash board.old) (256 * area.first) start entries at entry.now) }
+
+    // Up to some moment no image has the entry. Behind it each has all of the entry but its gate.
+    ensures in_turn { IsTrue (B.device board.old).tells_flash → (start : ℕ) (entries : List (List ℕ)) → Stands (B.flash board.old) (256 * area.first) start entries at
+        → LeavesInTurn B.moment B.images board.old board.new
+        (IsBefore (B.device board.old).blocks (B.flash board.old) (256 * area.first) start entries at entry.now)
+        (HasAllButGate (B.device board.old).blocks (B.flash board.old) (256 * area.first) at entry.now) }
+
+    // No other page changes, also where a call failed.
+    ensures others { IsTrue (B.device board.old).tells_flash → SameElsewhere (entry_pages (256 * area.first) at entry.now) (B.flash board.old) (B.flash board.new) }
+
+    ensures unsent { IsTrue (B.device board.old).tells_link → SendsNothing B.moment B.sent board.old board.new }
+    ensures same { B.device board.new ≡ B.device board.old }
+    ensures work { Works 0 (1 + payload_pages (length entry.now)) 0 (B.counts board.old) (B.counts board.new) }
+    ensures cause { OnErr result (Rose (B.counts board.old).flash_faults (B.counts board.new).flash_faults) }
+{
+    write_text(board, area, at + 1, entry)?;
+    board.barrier()?;
+    area.program(board, at, &OPEN)?;
+    board.barrier()?;
+    Ok(at + 1 + payload_pages(entry.len() as u32))
+}

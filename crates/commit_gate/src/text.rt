@@ -1,0 +1,91 @@
+// A text stands behind its length in four octets, highest first, with zeros to the end of its last page.
+ghost use Rattle.std.specs.Prelude.{◌≡◌, ◌<◌, ◌≤◌, ◌+◌, ◌-◌, ◌*◌, length, take, IsTrue, IfOk, OnOk, OnErr};
+ghost use Rattle.board.specs.Counts.{Rose, Works};
+ghost use Rattle.board.specs.Flash.{IsImage, loosened};
+ghost use Rattle.board.specs.Moments.{LeavesOnly, SendsNothing};
+ghost use Rattle.board.specs.Reads.{ReadsOnly};
+ghost use Rattle.commit_gate.specs.Commits.{IsCleanFrom, SameElsewhere, text_pages, with_text};
+ghost use Rattle.commit_gate.specs.Entries.{area_of, length_in, octets_from, payload_pages};
+
+use crate::area::Area;
+use crate::payload::{fill_page, payload_pages};
+use board::{Board, Failed};
+use byteorder::{BigEndian, ByteOrder};
+
+/// Programs a text of at most 20,476 octets into the pages from `first` on. `Failed`: a program failed;
+/// no other page changed.
+pub fn write_text<B: Board>(
+    board: &mut B,
+    area: Area,
+    first: u32,
+    text: &[u8],
+) -> Result<(), Failed>
+    requires block { area.first ≤ 5 }
+    requires length { length text.now ≤ 20476 }
+    requires room { first + payload_pages (length text.now) ≤ 512 }
+    requires clean { IsTrue (B.device board.old).tells_flash → IsCleanFrom (B.flash board.old) (256 * area.first) first }
+
+    ensures ok { OnOk result (IsTrue (B.device board.old).tells_flash → B.flash board.new ≡ with_text (256 * area.first) first text.now (B.flash board.old)) }
+    ensures others { IsTrue (B.device board.old).tells_flash → SameElsewhere (text_pages (256 * area.first) first text.now) (B.flash board.old) (B.flash board.new) }
+    ensures leaves { IsTrue (B.device board.old).tells_flash → LeavesOnly B.moment B.images board.old board.new
+        (IsImage (B.device board.old).blocks (loosened (text_pages (256 * area.first) first text.now) (B.flash board.old))) }
+    ensures unsent { IsTrue (B.device board.old).tells_link → SendsNothing B.moment B.sent board.old board.new }
+    ensures same { B.device board.new ≡ B.device board.old }
+    ensures work { Works 0 (payload_pages (length text.now)) 0 (B.counts board.old) (B.counts board.new) }
+    ensures cause { OnErr result (Rose (B.counts board.old).flash_faults (B.counts board.new).flash_faults) }
+{
+    let mut page = [0; 256];
+    for index in 0..payload_pages(text.len() as u32) {
+        fill_page(text, index, &mut page);
+        area.program(board, first + index, &page)?;
+    }
+    Ok(())
+}
+
+/// Reads the page `first` into the front of `buf`, at least 256 octets, and answers the length in its
+/// first four octets.
+pub fn read_length<B: Board>(
+    board: &mut B,
+    area: Area,
+    first: u32,
+    buf: &mut [u8],
+) -> Result<u32, Failed>
+    requires block { area.first ≤ 5 }
+    requires place { first < 512 }
+    requires room { 256 ≤ length buf.old }
+
+    ensures page { OnOk result (IsTrue (B.device board.old).tells_flash → take 256 buf.new ≡ area_of (256 * area.first) (B.flash board.old).content first) }
+    ensures length { IfOk result (λ found. IsTrue (B.device board.old).tells_flash → found ≡ length_in (area_of (256 * area.first) (B.flash board.old).content first)) }
+    ensures reads { ReadsOnly B.device B.flash B.moment B.images B.sent B.counts 1 board.old board.new }
+    ensures cause { OnErr result (Rose (B.counts board.old).flash_faults (B.counts board.new).flash_faults) }
+{
+    area.read_page(board, first, &mut buf[..256])?;
+    Ok(BigEndian::read_u32(buf))
+}
+
+/// Reads the pages behind the page `first`, whose octets stand in front of `buf`, until it has the
+/// octets of so many pages.
+pub fn read_rest<B: Board>(
+    board: &mut B,
+    area: Area,
+    first: u32,
+    pages: u32,
+    buf: &mut [u8],
+) -> Result<(), Failed>
+    requires block { area.first ≤ 5 }
+    requires some { 1 ≤ pages }
+    requires within { first + pages ≤ 512 }
+    requires room { 256 * pages ≤ length buf.old }
+    requires page { IsTrue (B.device board.old).tells_flash → take 256 buf.old ≡ area_of (256 * area.first) (B.flash board.old).content first }
+
+    ensures read { OnOk result (IsTrue (B.device board.old).tells_flash
+        → take (256 * pages) buf.new ≡ octets_from (area_of (256 * area.first) (B.flash board.old).content) first pages) }
+    ensures reads { ReadsOnly B.device B.flash B.moment B.images B.sent B.counts (pages - 1) board.old board.new }
+    ensures cause { OnErr result (Rose (B.counts board.old).flash_faults (B.counts board.new).flash_faults) }
+{
+    for i in 1..pages {
+        let start = 256 * i as usize;
+        area.read_page(board, first + i, &mut buf[start..start + 256])?;
+    }
+    Ok(())
+}
