@@ -9,9 +9,13 @@ mod laws;
 mod memory;
 mod memory_board;
 mod memory_source;
+#[cfg(test)]
+mod script;
 mod source;
 mod step;
 mod stop;
+#[cfg(test)]
+mod stop_tests;
 #[cfg(test)]
 mod tests;
 

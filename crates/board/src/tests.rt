@@ -4,9 +4,53 @@ use crate::board::{Board, Failed};
 use crate::calls::CallKind;
 use crate::memory::MemBoard;
 use crate::memory_source::MemSource;
+use crate::script::{Act, perform};
 use crate::source::Source;
 use std::alloc::Global;
 use std::test::Fail;
+
+// A call of each kind, three times.
+const KINDS: [CallKind; 5] = [
+    CallKind::Read,
+    CallKind::Program,
+    CallKind::Erase,
+    CallKind::Barrier,
+    CallKind::Send,
+];
+
+const ACTS: [Act; 15] = [
+    Act::Read,
+    Act::Program(1),
+    Act::Erase(1),
+    Act::Barrier,
+    Act::Send,
+    Act::Read,
+    Act::Program(2),
+    Act::Erase(2),
+    Act::Barrier,
+    Act::Send,
+    Act::Read,
+    Act::Program(3),
+    Act::Erase(3),
+    Act::Barrier,
+    Act::Send,
+];
+
+// Which calls succeed, where that call of that kind is planned to fail, and how many there were of
+// each kind.
+fn run_acts(alloc: Global, kind: CallKind, number: u64) -> Result<(Vec<bool>, Vec<u64>), Fail> {
+    let mut board = MemBoard::new(alloc, 16)?;
+    board.plan(kind, number)?;
+    let mut done = Vec::new(alloc);
+    for call in 0..15 {
+        done.push(perform(&mut board, call, ACTS[call as usize]))?;
+    }
+    let mut counts = Vec::new(alloc);
+    for kind in KINDS {
+        counts.push(board.count(kind))?;
+    }
+    Ok((done, counts))
+}
 
 fn send_two<B: Board>(board: &mut B) -> Result<(), Failed> {
     board.send(b"one, ")?;
@@ -27,6 +71,35 @@ fn take_all<S: Source>(alloc: Global, source: &mut S) -> Result<(Vec<usize>, Vec
         }
     }
     Ok((counts, octets))
+}
+
+#[test]
+fn a_new_board_is_blank_and_no_call_was_made(rt: HostRuntime) -> Result<(), Fail> {
+    let mut board = MemBoard::new(rt.alloc(), 16)?;
+    assert_eq!(rt; board.count(CallKind::Program), 0);
+    assert_eq!(rt; board.count(CallKind::Erase), 0);
+    assert_eq!(rt; board.moments(), 0);
+    let mut octets = [0; 256];
+    assert_eq!(rt; board.read_page(15, 255, &mut octets), Ok(()));
+    assert_eq!(rt; octets.as_slice(), [255; 256].as_slice());
+    assert_eq!(rt; board.page(0, 0), [255; 256].as_slice());
+    assert_eq!(rt; board.count(CallKind::Read), 1);
+    Ok(())
+}
+
+#[test]
+fn each_call_fails_where_it_is_planned_to(rt: HostRuntime) -> Result<(), Fail> {
+    for (place, kind) in KINDS.into_iter().enumerate() {
+        for round in 0..3 {
+            let (done, counts) = run_acts(rt.alloc(), kind, round + 1)?;
+            assert_eq!(rt; counts.as_slice(), [3; 5].as_slice());
+            for (call, done) in done.iter().enumerate() {
+                let planned = call % 5 == place && (call / 5) as u64 == round;
+                assert_eq!(rt; *done, !planned, "call {call}, kind {place}, round {round}");
+            }
+        }
+    }
+    Ok(())
 }
 
 #[test]
