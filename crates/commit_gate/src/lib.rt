@@ -14,3 +14,6 @@ pub use laws::{entries_are_read, images_are_read};
 pub use payload::{is_lawful, payload_pages};
 pub use reading::{Next, next_entry};
 pub use text::{read_length, read_rest, write_text};
+
+#[cfg(test)]
+mod tests;
