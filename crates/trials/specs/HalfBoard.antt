@@ -1,0 +1,85 @@
+-- What a board means whose link breaks within a send, and what its calls change.
+use Rattle.std.specs.Prelude.{◌≡◌, ◌⊎◌, ◌+◌, ◌++◌, ℕ, Bool, true, false, List, [], Option, Some, None, length, min, sum, take}
+use Rattle.board.specs.Counts.{Counts}
+use Rattle.board.specs.Device.{Device}
+use Rattle.trials.specs.Half.{half_of}
+use Rattle.trials.specs.declared.half_board.HalfBoard.{HalfBoard}
+
+-- it tells what it has sent
+abbrev pub device_of : HalfBoard → Device
+device_of board = record { blocks = board.blocks; tells_link = true }
+
+-- how many steps there were: each send that had memory is one
+abbrev pub moment_of : HalfBoard → ℕ
+moment_of board = length board.steps.items
+
+-- the octets that were sent by a moment
+abbrev pub sent_at : HalfBoard → ℕ → List ℕ
+sent_at board t = take (sum (take t board.steps.items)) board.sent.items
+
+-- how often the link has failed
+abbrev pub counts_of : HalfBoard → Counts
+counts_of board = record { link_faults = board.link_faults }
+
+-- how many sends there were, those that failed among them
+abbrev pub sends_made : HalfBoard → ℕ
+sends_made board = board.made
+
+-- the number of the send that is to fail
+abbrev pub planned_send : HalfBoard → Option ℕ
+planned_send board = board.planned
+
+-- whether a call has found no memory
+abbrev pub is_starved : HalfBoard → Bool
+is_starved board = board.starved
+
+-- A board that was just made.
+pub record IsNewBoard (blocks : ℕ) (board : HalfBoard) : Type 0 where
+  pub device : device_of board ≡ record { blocks = blocks; tells_link = true }
+  pub moment : moment_of board ≡ 0
+  pub sent : sent_at board (moment_of board) ≡ []
+  pub counts : counts_of board ≡ record { link_faults = 0 }
+  pub made : sends_made board ≡ 0
+  pub planned : planned_send board ≡ None
+  pub starved : is_starved board ≡ false
+
+-- Nothing changes but what is to fail.
+pub record SameButPlan (old new : HalfBoard) : Type 0 where
+  pub device : device_of new ≡ device_of old
+  pub moment : moment_of new ≡ moment_of old
+  pub sent : (t : ℕ) → sent_at new t ≡ sent_at old t
+  pub counts : counts_of new ≡ counts_of old
+  pub made : sends_made new ≡ sends_made old
+  pub starved : is_starved new ≡ is_starved old
+
+-- the new board's last send was planned to fail
+abbrev pub IsPlannedSend : HalfBoard → HalfBoard → Type 0
+IsPlannedSend old new = planned_send old ≡ Some (sends_made new)
+
+-- A send is counted, and the plan stays.
+pub record CountsSend (old new : HalfBoard) : Type 0 where
+  pub made : sends_made new ≡ min (sends_made old + 1) 18446744073709551615
+  pub planned : planned_send new ≡ planned_send old
+
+-- A send is one step, which sends these octets.
+pub record Sends (bytes : List ℕ) (old new : HalfBoard) : Type 0 where
+  pub moment : moment_of new ≡ moment_of old + 1
+  pub sent : sent_at new (moment_of new) ≡ sent_at old (moment_of old) ++ bytes
+  pub starved : is_starved new ≡ is_starved old
+
+-- A send for which there is no memory is no step, and the board says so from then on.
+pub record Starves (old new : HalfBoard) : Type 0 where
+  pub moment : moment_of new ≡ moment_of old
+  pub sent : sent_at new (moment_of new) ≡ sent_at old (moment_of old)
+  pub starved : is_starved new ≡ true
+
+-- A send fails because it was planned to, and then sends half, or because there is no memory.
+pub record SendFails (bytes : List ℕ) (old new : HalfBoard) : Type 0 where
+  pub faults : (counts_of new).link_faults ≡ min ((counts_of old).link_faults + 1) 18446744073709551615
+  pub reason : (IsPlannedSend old new × Sends (half_of bytes) old new) ⊎ Starves old new
+
+-- A send that succeeds was not planned to fail, and sends all.
+pub record SendSucceeds (bytes : List ℕ) (old new : HalfBoard) : Type 0 where
+  pub unplanned : ¬ (IsPlannedSend old new)
+  pub counts : counts_of new ≡ counts_of old
+  pub sends : Sends bytes old new
