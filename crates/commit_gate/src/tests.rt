@@ -11,12 +11,8 @@ use std::alloc::{AllocError, Global};
 use std::test::Fail;
 
 const AREA: Area = Area { first: 3 };
-const TORN: [Torn; 4] = [
-    Torn::Done,
-    Torn::Undone,
-    Torn::Fill(0x5a),
-    Torn::Fill(0),
-];
+
+const TORN: [Torn; 4] = [Torn::Done, Torn::Undone, Torn::Fill(0x5a), Torn::Fill(0)];
 
 // Whether these entries stand from the page `start` on, and no other.
 fn reads_as<B: Board>(board: &mut B, start: u32, entries: &[&[u8]]) -> Result<bool, Failed> {
@@ -189,7 +185,13 @@ fn the_text_and_the_page_behind_it_are_answered(rt: HostRuntime) -> Result<(), F
     let mut buf = [0; 5120];
     let text = [0x5a; 252];
     let next = next_entry(&mut board, AREA, 510, &mut buf)?;
-    assert_eq!(rt; next, Next::Entry { text: &text, next: 512 });
+    assert_eq!(rt;
+        next,
+        Next::Entry {
+            text: &text,
+            next: 512
+        }
+    );
     Ok(())
 }
 

@@ -2,12 +2,19 @@
 use Rattle.std.specs.Prelude.{◌≡◌, ◌⊎◌, ◌+◌, ◌++◌, ℕ, Bool, true, false, List, [], Option, Some, None, length, min, sum, take}
 use Rattle.board.specs.Counts.{Counts}
 use Rattle.board.specs.Device.{Device}
+use Rattle.board.specs.Flash.{Flash}
 use Rattle.trials.specs.Half.{half_of}
 use Rattle.trials.specs.declared.half_board.HalfBoard.{HalfBoard}
 
--- it tells what it has sent
+-- it tells what it has sent, and nothing of its flash
 abbrev pub device_of : HalfBoard → Device
-device_of board = record { blocks = board.blocks; tells_link = true }
+device_of board = record { blocks = board.blocks; tells_flash = false; tells_link = true }
+
+abbrev pub flash_of : HalfBoard → Flash
+flash_of board = record { content = λ p. []; erased = λ p. false; loose = λ p. false }
+
+abbrev pub image_at : HalfBoard → ℕ → (ℕ → List ℕ) → Type 0
+image_at board t image = ⊥
 
 -- how many steps there were: each send that had memory is one
 abbrev pub moment_of : HalfBoard → ℕ
@@ -17,9 +24,9 @@ moment_of board = length board.steps.items
 abbrev pub sent_at : HalfBoard → ℕ → List ℕ
 sent_at board t = take (sum (take t board.steps.items)) board.sent.items
 
--- how often the link has failed
+-- how often flash and link have failed; no flash call does any work
 abbrev pub counts_of : HalfBoard → Counts
-counts_of board = record { link_faults = board.link_faults }
+counts_of board = record { flash_faults = board.flash_faults; link_faults = board.link_faults; reads = 0; programs = 0; erases = 0 }
 
 -- how many sends there were, those that failed among them
 abbrev pub sends_made : HalfBoard → ℕ
@@ -35,10 +42,10 @@ is_starved board = board.starved
 
 -- A board that was just made.
 pub record IsNewBoard (blocks : ℕ) (board : HalfBoard) : Type 0 where
-  pub device : device_of board ≡ record { blocks = blocks; tells_link = true }
+  pub device : device_of board ≡ record { blocks = blocks; tells_flash = false; tells_link = true }
   pub moment : moment_of board ≡ 0
   pub sent : sent_at board (moment_of board) ≡ []
-  pub counts : counts_of board ≡ record { link_faults = 0 }
+  pub counts : counts_of board ≡ record { flash_faults = 0; link_faults = 0; reads = 0; programs = 0; erases = 0 }
   pub made : sends_made board ≡ 0
   pub planned : planned_send board ≡ None
   pub starved : is_starved board ≡ false
@@ -62,7 +69,7 @@ pub record CountsSend (old new : HalfBoard) : Type 0 where
   pub planned : planned_send new ≡ planned_send old
 
 -- A send is one step, which sends these octets.
-pub record Sends (bytes : List ℕ) (old new : HalfBoard) : Type 0 where
+pub record SendsThese (bytes : List ℕ) (old new : HalfBoard) : Type 0 where
   pub moment : moment_of new ≡ moment_of old + 1
   pub sent : sent_at new (moment_of new) ≡ sent_at old (moment_of old) ++ bytes
   pub starved : is_starved new ≡ is_starved old
@@ -76,10 +83,10 @@ pub record Starves (old new : HalfBoard) : Type 0 where
 -- A send fails because it was planned to, and then sends half, or because there is no memory.
 pub record SendFails (bytes : List ℕ) (old new : HalfBoard) : Type 0 where
   pub faults : (counts_of new).link_faults ≡ min ((counts_of old).link_faults + 1) 18446744073709551615
-  pub reason : (IsPlannedSend old new × Sends (half_of bytes) old new) ⊎ Starves old new
+  pub reason : (IsPlannedSend old new × SendsThese (half_of bytes) old new) ⊎ Starves old new
 
 -- A send that succeeds was not planned to fail, and sends all.
 pub record SendSucceeds (bytes : List ℕ) (old new : HalfBoard) : Type 0 where
   pub unplanned : ¬ (IsPlannedSend old new)
   pub counts : counts_of new ≡ counts_of old
-  pub sends : Sends bytes old new
+  pub sends : SendsThese bytes old new

@@ -1,5 +1,5 @@
-// A board whose link breaks within a send. It tells all, and keeps what it sent and how much each send
-// sent.
+// A board whose link breaks within a send. It tells what it sent, and keeps how much each send sent. It
+// has no flash that works: each call of it fails.
 ghost use Rattle.std.specs.Prelude.{◌≡◌, ◌≤◌, ◌<◌, ◌++◌, ◌∷◌, [], if◌then◌else◌, length, sum, IsTrue, OnOk, OnErr};
 ghost use Rattle.board.specs.Counts.{Rose};
 ghost use Rattle.trials.specs.Half.{half_of};
@@ -13,6 +13,7 @@ pub struct HalfBoard {
     blocks: u32,
     steps: Vec<usize>,
     sent: Vec<u8>,
+    flash_faults: u64,
     link_faults: u64,
     made: u64,
     planned: Option<u64>,
@@ -65,6 +66,7 @@ impl HalfBoard {
             blocks,
             steps: Vec::new(alloc),
             sent: Vec::new(alloc),
+            flash_faults: 0,
             link_faults: 0,
             made: 0,
             planned: None,
@@ -98,12 +100,19 @@ impl HalfBoard {
 
 impl Board for HalfBoard {
     ghost use Rattle.std.specs.Prelude.{◌⊎◌};
-    ghost use Rattle.board.specs.Moments.{GainsFront, SendsOnly};
-    ghost use Rattle.trials.specs.HalfBoard.{CountsSend, SendFails, SendSucceeds, counts_of, device_of, moment_of, sent_at};
+    ghost use Rattle.std.proofs.lemmas.Bool.{false≢true};
+    ghost use Rattle.board.specs.Counts.{Sends};
+    ghost use Rattle.board.specs.Flash.{IsImage};
+    ghost use Rattle.board.specs.Moments.{GainsFront, LeavesOnly, SendsOnly};
+    ghost use Rattle.trials.specs.HalfBoard.{CountsSend, SendFails, SendSucceeds, counts_of, device_of, flash_of, image_at, moment_of, sent_at};
 
     ghost device = { device_of };
 
+    ghost flash = { flash_of };
+
     ghost moment = { moment_of };
+
+    ghost images = { image_at };
 
     ghost sent = { sent_at };
 
@@ -113,8 +122,34 @@ impl Board for HalfBoard {
 
     ghost few_blocks = { λ board. board.most };
 
+    ghost content_pages = { λ board told. absurd (false≢true told) };
+
+    ghost erased_blank = { λ board p told erased. absurd (false≢true told) };
+
+    ghost images_now = { λ board image told left. absurd left };
+
     fn blocks(&self) -> u32 {
         self.blocks
+    }
+
+    fn read_page(&mut self, _block: u32, _page: u32, _into: &mut [u8]) -> Result<(), Failed> {
+        self.flash_faults = self.flash_faults.saturating_add(1);
+        Err(Failed)
+    }
+
+    fn program(&mut self, _block: u32, _page: u32, _from: &[u8]) -> Result<(), Failed> {
+        self.flash_faults = self.flash_faults.saturating_add(1);
+        Err(Failed)
+    }
+
+    fn erase(&mut self, _block: u32) -> Result<(), Failed> {
+        self.flash_faults = self.flash_faults.saturating_add(1);
+        Err(Failed)
+    }
+
+    fn barrier(&mut self) -> Result<(), Failed> {
+        self.flash_faults = self.flash_faults.saturating_add(1);
+        Err(Failed)
     }
 
     fn send(&mut self, bytes: &[u8]) -> Result<(), Failed>
@@ -126,8 +161,15 @@ impl Board for HalfBoard {
         ensures later { IsTrue (device_of self.old).tells_link
             → (sent_at self.new (moment_of self.new) ≡ sent_at self.old (moment_of self.old))
             ⊎ (moment_of self.old < moment_of self.new) }
+        ensures flash { IsTrue (device_of self.old).tells_flash → flash_of self.new ≡ flash_of self.old }
+        ensures seen { IsTrue (device_of self.old).tells_flash
+            → image_at self.old (moment_of self.old) (flash_of self.old).content
+            → image_at self.new (moment_of self.new) (flash_of self.new).content }
+        ensures leaves { IsTrue (device_of self.old).tells_flash
+            → LeavesOnly moment_of image_at self.old self.new
+            (IsImage (device_of self.old).blocks (flash_of self.old)) }
         ensures same { device_of self.new ≡ device_of self.old }
-        ensures faults { (counts_of self.old).link_faults ≤ (counts_of self.new).link_faults }
+        ensures work { Sends (counts_of self.old) (counts_of self.new) }
         ensures no_fault { OnOk result ((counts_of self.new).link_faults ≡ (counts_of self.old).link_faults) }
         ensures cause { OnErr result
             (Rose (counts_of self.old).link_faults (counts_of self.new).link_faults) }
