@@ -68,6 +68,7 @@ pub struct Calls {
 impl Calls {
     ghost use Rattle.board.specs.Calls.{made_in, planned_in};
 
+    /// No call was made, and none is to fail.
     pub fn new(alloc: Global) -> Self
         ensures made { made_in result ≡ each 0 }
         ensures planned { planned_in result ≡ each [] }
@@ -94,6 +95,7 @@ impl Calls {
         }
     }
 
+    /// The call of that kind with this number, counted from 1, is to fail too.
     pub fn plan(&mut self, kind: CallKind, number: u64) -> Result<(), AllocError>
         ensures ok { OnOk result (planned_in self.new ≡ changed kind (λ numbers. numbers ++ number ∷ []) (planned_in self.old)) }
         ensures err { OnErr result (planned_in self.new ≡ planned_in self.old) }

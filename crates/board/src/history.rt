@@ -8,6 +8,7 @@ use crate::cache::{blank_pages, copy_of, do_step};
 use crate::step::{First, Step};
 use std::alloc::{AllocError, Global};
 
+/// What a board began with, and each step since.
 #[derive(Drop)]
 pub struct History {
     pub blocks: u32,

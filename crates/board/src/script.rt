@@ -6,6 +6,7 @@ ghost use Rattle.board.specs.Memory.{flash_of};
 use crate::board::Board;
 use crate::memory::MemBoard;
 
+/// A call of a script.
 #[derive(Clone, Copy)]
 pub enum Act {
     Read,

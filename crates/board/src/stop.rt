@@ -21,8 +21,8 @@ pub enum Torn {
     Fill(u8),
 }
 
-// The pages after some of the steps: what they hold, what they held when they were last firm, and
-// whether they are loose.
+/// The pages after some of the steps: what they hold, what they held when they were last firm, and
+/// whether they are loose.
 #[derive(Drop)]
 pub struct Walk {
     pub pages: Vec<[u8; 256]>,

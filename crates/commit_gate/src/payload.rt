@@ -26,7 +26,7 @@ fn payload_octet(head: &[u8], entry: &[u8], at: usize) -> u8
     }
 }
 
-// Fills a page with its part of the payload.
+/// Fills a page of 256 octets with its part of the payload.
 pub fn fill_page(entry: &[u8], index: u32, page: &mut [u8])
     requires length { length page.old ≡ 256 }
     requires entry { length entry.now < 2 ^ 32 }
