@@ -5,12 +5,12 @@ use Rattle.std.proofs.lemmas.List.{append-nil, drop-append-le}
 use Rattle.std.specs.Prelude.{Contains, IsTrue, ◌⊎◌}
 use Rattle.session_text.specs.declared.fault.LineEnd.{LineEnd}
 use Rattle.session_text.specs.declared.fault.LineEnd.TheVariants as ends
-use Rattle.session_text.specs.declared.fault.LineFault.{LineFault}
-use Rattle.session_text.specs.declared.fault.LineFault.TheVariants as faults
-use Rattle.session_text.specs.Command.{Command}
+use Rattle.pst_model.specs.declared.faults.LineFault.{LineFault}
+use Rattle.pst_model.specs.declared.faults.LineFault.TheVariants as faults
+use Rattle.pst_model.specs.Command.{Command}
 use Rattle.session_text.specs.Lending.{MovesOn, Reader, Tells, moved_on, next_at, reading_held}
-use Rattle.session_text.specs.Text.{Line, Next, Read, Bad, line_reading, next_by, next_in, next_of, size_of, size_of_next}
-use Rattle.session_text.proofs.Texts.{lines_in-ended, lines_in-front, lines_in-unended}
+use Rattle.pst_model.specs.Text.{Line, Next, Read, Bad, line_reading, next_by, next_in, next_of, size_of, size_of_next}
+use Rattle.pst_model.proofs.Texts.{lines_in-ended, lines_in-front, lines_in-unended}
 
 -- In front of these octets stands a line of so many octets with its LF.
 pub record IsLine (held : List ℕ) (count : ℕ) : Type 0 where

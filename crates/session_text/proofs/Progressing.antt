@@ -2,14 +2,14 @@
 use Rattle.std.proofs.Common.{◌≡◌, ℕ, ◌+◌, ◌-◌, Bool, true, false, List, [], ◌∷◌, ◌++◌, length, take, drop, refl, sym, ◌∙◌, ap, subst, arith, append_assoc, length-append}
 use Rattle.std.proofs.lemmas.List.{append-nil, append_cancel_right, drop_at, take_at}
 use Rattle.std.specs.Prelude.{Contains, ◌&&◌, if◌then◌else◌, filter, Some, None, Result, Ok, Err}
-use Rattle.session_text.specs.declared.fault.LineFault.{LineFault}
-use Rattle.session_text.specs.declared.fault.LineFault.TheVariants.{Form}
-use Rattle.session_text.specs.Command.{Command}
-use Rattle.session_text.specs.Forms.{reading_of}
+use Rattle.pst_model.specs.declared.faults.LineFault.{LineFault}
+use Rattle.pst_model.specs.declared.faults.LineFault.TheVariants.{Form}
+use Rattle.pst_model.specs.Command.{Command}
+use Rattle.pst_model.specs.Forms.{reading_of}
 use Rattle.session_text.specs.Lending.{Reader, next_at}
 use Rattle.session_text.specs.Progress.{HasRead}
-use Rattle.session_text.specs.Text.{Line, Read, Bad, End, bad_by, bad_read, behind_reading, commands_from, commands_of, commands_read, first_bad, first_bad_from, is_within, line_reading, lines_in, next_by, next_in, next_of, size_of, whole_lines}
-use Rattle.session_text.proofs.Texts.{first_line, lines_in-ended, lines_in-none, whole_lines-none}
+use Rattle.pst_model.specs.Text.{Line, Read, Bad, End, bad_by, bad_read, behind_reading, commands_from, commands_of, commands_read, first_bad, first_bad_from, is_within, line_reading, lines_in, next_by, next_in, next_of, size_of, whole_lines}
+use Rattle.pst_model.proofs.Texts.{first_line, lines_in-ended, lines_in-none, whole_lines-none}
 
 -- a line that says a command has its LF
 ended_line : (limit place : ℕ) (line : Line) (command : Command) → line_reading limit place line ≡ Ok command → line.ended ≡ true

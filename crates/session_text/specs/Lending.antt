@@ -7,9 +7,9 @@ use Rattle.session_text.specs.declared.fault.LineEnd.{LineEnd}
 use Rattle.session_text.specs.declared.fault.LineEnd.TheVariants as ends
 use Rattle.session_text.specs.declared.lines.Lines.{Lines}
 use Rattle.session_text.specs.contracts.lines.Lines.{the_row}
-use Rattle.session_text.specs.Command.{Command}
-use Rattle.session_text.specs.declared.fault.LineFault.{LineFault}
-use Rattle.session_text.specs.Text.{Next, Read, Bad, End, line_reading, next_of, size_of_next}
+use Rattle.pst_model.specs.Command.{Command}
+use Rattle.pst_model.specs.declared.faults.LineFault.{LineFault}
+use Rattle.pst_model.specs.Text.{Next, Read, Bad, End, line_reading, next_of, size_of_next}
 
 pub record Reader : Type 0 where
   -- the octets of the text that are taken, at most

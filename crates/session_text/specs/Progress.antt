@@ -1,8 +1,8 @@
 -- How far a reader has come in a text.
 use Rattle.std.specs.Prelude.{◌≡◌, ◌+◌, ◌++◌, ℕ, List, filter}
-use Rattle.session_text.specs.Command.{Command}
+use Rattle.pst_model.specs.Command.{Command}
 use Rattle.session_text.specs.Lending.{Reader}
-use Rattle.session_text.specs.Text.{Line, bad_read, commands_from, commands_of, commands_read, first_bad, first_bad_from, lines_in}
+use Rattle.pst_model.specs.Text.{Line, bad_read, commands_from, commands_of, commands_read, first_bad, first_bad_from, lines_in}
 
 -- The reader has read these commands of the text, of which the source has so much left: what it holds and
 -- what is left spell the other commands, and so does whatever more is taken.

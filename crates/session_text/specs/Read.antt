@@ -3,7 +3,7 @@ use Rattle.std.specs.Prelude.{◌≤◌, ◌<◌, ◌^◌, ℕ, List, length, ta
 use Rattle.space_packet.specs.Packet.{IsPacket}
 use Rattle.session_text.specs.declared.form.Form.{Form}
 use Rattle.session_text.specs.declared.form.Form.TheVariants as forms
-use Rattle.session_text.specs.Command.{Command, Arrival, Grant}
+use Rattle.pst_model.specs.Command.{Command, Arrival, Grant}
 
 abbrev pub command_in : List ℕ → Form → Command
 command_in packet (forms.Arrival moment length) = Arrival moment (take length packet)

@@ -3,7 +3,7 @@ use Rattle.std.specs.Prelude.{ℕ}
 use Rattle.space_packet.specs.View.{octets_of}
 use Rattle.session_text.specs.declared.command.Command.{Command as View}
 use Rattle.session_text.specs.declared.command.Command.TheVariants as views
-use Rattle.session_text.specs.Command.{Command, Arrival, Grant}
+use Rattle.pst_model.specs.Command.{Command, Arrival, Grant}
 
 -- the command that a value of the code is
 abbrev pub command_of : View → Command

@@ -2,7 +2,7 @@
 ghost use Rattle.std.specs.Prelude.{◌≡◌, ◌≤◌, ◌<◌, ◌*◌, ◌^◌, length, take, Ok, Err, IfOk, IfSome, MatchResult};
 ghost use Rattle.byteorder.specs.Endian.{big_number};
 ghost use Rattle.space_packet.specs.Packet.{IsPacket};
-ghost use Rattle.session_text.specs.Forms.{moment_in, packet_in, reading_of};
+ghost use Rattle.pst_model.specs.Forms.{moment_in, packet_in, reading_of};
 ghost use Rattle.session_text.specs.Read.{IsHeld, command_in};
 
 use crate::fault::LineFault;

@@ -2,7 +2,7 @@
 ghost use Rattle.std.specs.Prelude.{◌≡◌, ◌+◌, ◌*◌, ◌≤◌, ◌<◌, ◌++◌, length, drop};
 ghost use Rattle.octet_fields.specs.Fields.{Writes};
 ghost use Rattle.hex.specs.Hex.{encode_lower};
-ghost use Rattle.session_text.specs.Output.{output_line};
+ghost use Rattle.pst_model.specs.Output.{output_line};
 
 use octet_fields::put_u8;
 

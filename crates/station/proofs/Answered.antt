@@ -6,13 +6,13 @@ use Rattle.board.specs.Device.{Device}
 use Rattle.session_text.specs.declared.command.Command.{Command as View}
 use Rattle.session_text.specs.declared.fault.LineEnd.{LineEnd}
 use Rattle.session_text.specs.declared.fault.LineEnd.TheVariants as ends
-use Rattle.session_text.specs.declared.fault.LineFault.{LineFault}
+use Rattle.pst_model.specs.declared.faults.LineFault.{LineFault}
 use Rattle.session_text.specs.Lending.{MovesOn, Reader, Tells, next_at}
 use Rattle.session_text.specs.Shown.{command_of}
-use Rattle.session_text.specs.Text.{size_of_next}
+use Rattle.pst_model.specs.Text.{size_of_next}
 use Rattle.station.specs.declared.ending.Ending.TheVariants.{Done, BadLine, SourceFault}
 use Rattle.station.specs.Session.{Carried, Ended}
-use Rattle.station.specs.Table.{Table}
+use Rattle.pst_model.specs.Table.{Table}
 use Rattle.station.proofs.Turns.{Advances, ended_bad, ended_done, ended_source}
 
 -- the answer of a reader, and what it left

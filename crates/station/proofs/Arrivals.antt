@@ -4,8 +4,8 @@ use Rattle.std.proofs.lemmas.Bool.{cond-true, cond-false, le-ltb, or_from}
 use Rattle.std.specs.Prelude.{max, ◌==◌, ◌&&◌, nat_lt}
 use Rattle.space_packet.specs.Charge.{charge_of}
 use Rattle.space_packet.specs.Packet.{apid_of}
-use Rattle.station.specs.Rules.{Put, Step, Taken, arrive, behind_put, free_of, is_refused, put, to_drop}
-use Rattle.station.specs.Table.{Stored, Table, boot_store, boot_table}
+use Rattle.pst_model.specs.Rules.{Put, Step, Taken, arrive, behind_put, free_of, is_refused, put, to_drop}
+use Rattle.pst_model.specs.Table.{Stored, Table, boot_store, boot_table}
 
 -- an idle packet moves the storage time alone
 pub idle : (number moment : ℕ) (packet : List ℕ) (table : Table) → (apid_of packet == 2047) ≡ true → (arrive number moment packet table).table ≡ record table { now = max table.now moment }

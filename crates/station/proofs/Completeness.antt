@@ -1,8 +1,8 @@
 -- Where nothing failed, a session ends as its text says, unless there was no memory.
 use Rattle.std.proofs.Common.{◌≡◌, ◌≢◌, ◌⊎◌, inl, inr, ℕ, List, Option, Some, None, refl, sym, subst}
 use Rattle.std.specs.Prelude.{MatchOption}
-use Rattle.session_text.specs.declared.fault.LineFault.{LineFault}
-use Rattle.session_text.specs.Text.{first_bad}
+use Rattle.pst_model.specs.declared.faults.LineFault.{LineFault}
+use Rattle.pst_model.specs.Text.{first_bad}
 use Rattle.station.specs.declared.ending.Ending.{Ending}
 use Rattle.station.specs.declared.ending.Ending.TheVariants.{Done, BadWords, BadLine, LinkFault, SourceFault, NoMemory}
 use Rattle.station.specs.Session.{EndsAsTold, EndsReading, text_limit}

@@ -5,10 +5,10 @@ use Rattle.std.proofs.lemmas.List.{drop-map, drop_all, length-map, map-append}
 use Rattle.space_packet.specs.Charge.{charge_of}
 use Rattle.station.specs.declared.boot.Packet.{Packet}
 use Rattle.station.specs.Kept.{leaving, packets_of, stored_of}
-use Rattle.station.specs.Least.{IsLeast}
-use Rattle.station.specs.Rules.{has_room, to_drop}
-use Rattle.station.specs.Table.{Store, Stored, boot_store, content_in}
-use Rattle.station.proofs.Leasts.{least-is, least-least}
+use Rattle.pst_model.specs.Least.{IsLeast}
+use Rattle.pst_model.specs.Rules.{has_room, to_drop}
+use Rattle.pst_model.specs.Table.{Store, Stored, boot_store, content_in}
+use Rattle.pst_model.proofs.Leasts.{least-is, least-least}
 
 pub content_in-append : (xs ys : List Stored) → content_in (xs ++ ys) ≡ content_in xs + content_in ys
 content_in-append [] ys = omega arith

@@ -2,8 +2,8 @@
 use Rattle.std.proofs.Common.{◌≡◌, ◌<◌, ℕ, ◌+◌, List, Option, length, ◌∙◌, ap}
 use Rattle.std.proofs.lemmas.Bool.{cond-true, lt-ltb}
 use Rattle.std.specs.Prelude.{nat_lt}
-use Rattle.station.specs.Rules.{grant, grant_open}
-use Rattle.station.specs.Table.{Store, Stored, boot_table}
+use Rattle.pst_model.specs.Rules.{grant, grant_open}
+use Rattle.pst_model.specs.Table.{Store, Stored, boot_table}
 
 -- where packets are ahead, the first of them is passed
 pub granted : (number now : ℕ) (packets : List Stored) (behind : ℕ) → behind < length packets → (grant number (boot_table now packets behind)).table ≡ boot_table now packets (behind + 1)

@@ -6,18 +6,18 @@ use Rattle.board.specs.Counts.{Counts, Rose}
 use Rattle.board.specs.Device.{Device}
 use Rattle.board.specs.Moments.{GainsFront, IsPrefixOf, SendsOnly}
 use Rattle.board.proofs.Runs.{gains_more, gains_none, goes_on, links_too, prefix_trans, rose_since, started, weaker}
-use Rattle.session_text.specs.declared.fault.LineFault.{LineFault}
-use Rattle.session_text.specs.Command.{Command}
+use Rattle.pst_model.specs.declared.faults.LineFault.{LineFault}
+use Rattle.pst_model.specs.Command.{Command}
 use Rattle.session_text.specs.Lending.{Reader, next_at}
 use Rattle.session_text.specs.Progress.{HasRead}
-use Rattle.session_text.specs.Text.{Read, Bad, End, bad_read, commands_of, commands_read, first_bad, size_of_next}
+use Rattle.pst_model.specs.Text.{Read, Bad, End, bad_read, commands_of, commands_read, first_bad, size_of_next}
 use Rattle.session_text.proofs.Progressing.{has_read_bad, has_read_end, has_read_more, has_read_none, has_read_taken, has_read_unended, taken_is}
 use Rattle.station.specs.declared.ending.Ending.{Ending}
 use Rattle.station.specs.declared.ending.Ending.TheVariants.{Done, BadWords, BadLine, LinkFault, SourceFault, NoMemory}
-use Rattle.station.specs.Run.{lines_of, step}
+use Rattle.pst_model.specs.Run.{lines_of, step}
 use Rattle.station.specs.Session.{Carried, Ended, EndsReading, EndsSending, IsStart, MayBeSent, lines_for, read_of, taken_of, text_limit}
-use Rattle.station.specs.Table.{Table, after_format}
-use Rattle.station.proofs.Runs.{lines-prefix, run-more_lines, run-more_table}
+use Rattle.pst_model.specs.Table.{Table, after_format}
+use Rattle.pst_model.proofs.Runs.{lines-prefix, run-more_lines, run-more_table}
 
 -- What was taken of a text of which these commands were read: the commands read begin with them.
 pub record Taken (text left : List ℕ) (done : List Command) : Type 0 where

@@ -2,7 +2,7 @@
 use Rattle.std.specs.Prelude.{◌<◌, length}
 use Rattle.station.specs.declared.boot.BootStore.{BootStore}
 use Rattle.station.specs.Kept.{packets_of}
-use Rattle.station.specs.Table.{Table, boot_table}
+use Rattle.pst_model.specs.Table.{Table, boot_table}
 
 abbrev pub table_of : BootStore → Table
 table_of store = boot_table store.clock (packets_of store.packets.items) store.behind

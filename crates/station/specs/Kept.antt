@@ -1,8 +1,8 @@
 -- Packets as the code keeps them.
 use Rattle.std.specs.Prelude.{ℕ, ◌≤◌, List, length, map}
 use Rattle.station.specs.declared.boot.Packet.{Packet}
-use Rattle.station.specs.Rules.{to_drop}
-use Rattle.station.specs.Table.{Stored, boot_store}
+use Rattle.pst_model.specs.Rules.{to_drop}
+use Rattle.pst_model.specs.Table.{Stored, boot_store}
 
 abbrev pub stored_of : Packet → Stored
 stored_of packet = record { time = packet.time; octets = packet.octets.items }

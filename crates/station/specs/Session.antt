@@ -3,14 +3,14 @@ use Rattle.std.specs.Prelude.{◌≡◌, ◌≢◌, ◌⊎◌, ◌≤◌, ◌-�
 use Rattle.board.specs.Counts.{Counts, Rose}
 use Rattle.board.specs.Device.{Device}
 use Rattle.board.specs.Moments.{GainsFront, SendsOnly}
-use Rattle.session_text.specs.Command.{Command}
+use Rattle.pst_model.specs.Command.{Command}
 use Rattle.session_text.specs.Lending.{Reader}
 use Rattle.session_text.specs.Progress.{HasRead}
-use Rattle.session_text.specs.Text.{bad_read, commands_of, commands_read, first_bad}
+use Rattle.pst_model.specs.Text.{bad_read, commands_of, commands_read, first_bad}
 use Rattle.station.specs.declared.ending.Ending.{Ending}
 use Rattle.station.specs.declared.ending.Ending.TheVariants.{Done, BadWords, BadLine, LinkFault, SourceFault, NoMemory}
-use Rattle.station.specs.Run.{lines_of, run}
-use Rattle.station.specs.Table.{Table, after_format}
+use Rattle.pst_model.specs.Run.{lines_of, run}
+use Rattle.pst_model.specs.Table.{Table, after_format}
 
 -- the octets of a text that are taken, at most: 2 ^ 40
 abbrev pub text_limit : ℕ

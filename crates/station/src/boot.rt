@@ -1,7 +1,7 @@
 // The table after a format, in memory: the boot store alone.
 ghost use Rattle.std.specs.Prelude.{◌≡◌, ◌≤◌, ◌<◌, ◌+◌, ◌-◌, ◌∷◌, ◌++◌, ℕ, [], All, length, drop, OnOk, IfNone, IfSome, MatchOption};
 ghost use Rattle.station.specs.Kept.{IsKept, leaving, packets_of};
-ghost use Rattle.station.specs.Table.{content_in};
+ghost use Rattle.pst_model.specs.Table.{content_in};
 
 use space_packet::{PacketView, charge};
 use std::alloc::{AllocError, Global};
@@ -60,8 +60,8 @@ impl BootStore {
     ghost use Rattle.space_packet.specs.Charge.{charge_of};
     ghost use Rattle.space_packet.specs.View.{octets_of};
     ghost use Rattle.station.specs.Boot.{HasNext, table_of};
-    ghost use Rattle.station.specs.Rules.{Retrieved, arrive, grant};
-    ghost use Rattle.station.specs.Table.{after_format, boot_table};
+    ghost use Rattle.pst_model.specs.Rules.{Retrieved, arrive, grant};
+    ghost use Rattle.pst_model.specs.Table.{after_format, boot_table};
 
     /// The table after a format.
     pub fn new(alloc: Global) -> BootStore

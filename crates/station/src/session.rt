@@ -5,11 +5,11 @@ ghost use Rattle.board.specs.Moments.{GainsFront, SendsOnly};
 ghost use Rattle.session_text.specs.Lending.{reader_of};
 ghost use Rattle.session_text.specs.Shown.{command_of};
 ghost use Rattle.station.specs.Boot.{table_of};
-ghost use Rattle.station.specs.Rules.{grant};
-ghost use Rattle.station.specs.Run.{lines_of, step};
+ghost use Rattle.pst_model.specs.Rules.{grant};
+ghost use Rattle.pst_model.specs.Run.{lines_of, step};
 ghost use Rattle.station.specs.Session.{Carried, Ended, EndsAsTold, EndsReading, EndsSending, IsStart, MayBeSent, read_of, taken_of};
 ghost use Rattle.station.specs.Stops.{OnLink, OnNoMemory, UnlessLink};
-ghost use Rattle.station.specs.Table.{after_format};
+ghost use Rattle.pst_model.specs.Table.{after_format};
 ghost use Rattle.station.specs.Words.{AreFresh, texts_of};
 
 use crate::boot::{BootStore, CHANNEL};

@@ -4,7 +4,7 @@ use Rattle.std.proofs.lemmas.List.Elements.{All-rest}
 use Rattle.space_packet.specs.Charge.{charge_of}
 use Rattle.station.specs.declared.boot.Packet.{Packet}
 use Rattle.station.specs.Kept.{IsKept, leaving, packets_of}
-use Rattle.station.specs.Table.{content_in}
+use Rattle.pst_model.specs.Table.{content_in}
 use Rattle.station.proofs.Contents.{leaving-is}
 use Rattle.station.proofs.boot.make_room.Goals as goal
 use Rattle.station.proofs.boot.make_room.Goals.{After-drops}

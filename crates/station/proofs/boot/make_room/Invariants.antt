@@ -1,7 +1,7 @@
 use Rattle.std.proofs.Common.{◌+◌, ◌-◌, ◌≡◌, ◌≤◌, ◌<◌, ℕ, length, drop}
 use Rattle.std.specs.Prelude.{All}
 use Rattle.station.specs.Kept.{IsKept, packets_of}
-use Rattle.station.specs.Table.{content_in}
+use Rattle.pst_model.specs.Table.{content_in}
 use Rattle.station.proofs.boot.make_room.Given as goal
 
 -- k packets have left, each because there was no room before

@@ -1,7 +1,7 @@
 use Rattle.std.proofs.Common.{◌+◌, ap, refl, ◌∙◌}
 use Rattle.session_text.specs.Lending.{Reader, reader_of}
 use Rattle.session_text.specs.Read.{command_in}
-use Rattle.session_text.specs.Text.{next_by}
+use Rattle.pst_model.specs.Text.{next_by}
 use Rattle.session_text.proofs.Advances.{IsLine, MovesOn-line, Tells-read, Tells-bad, next_at-line, next_at-endless}
 use Rattle.session_text.proofs.lines.Lines.advance.Goals as goal
 

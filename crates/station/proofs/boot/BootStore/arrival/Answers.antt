@@ -5,7 +5,7 @@ use Rattle.space_packet.specs.Charge.{charge_of}
 use Rattle.space_packet.specs.View.{octets_of}
 use Rattle.station.specs.Boot.{table_of}
 use Rattle.station.specs.Kept.{leaving, packets_of, stored_of}
-use Rattle.station.specs.Table.{Stored, Table, boot_table}
+use Rattle.pst_model.specs.Table.{Stored, Table, boot_table}
 use Rattle.station.specs.declared.boot.BootStore.{BootStore}
 use Rattle.station.proofs.Arrivals.{arrived, idle}
 use Rattle.station.proofs.boot.BootStore.arrival.Goals as goal

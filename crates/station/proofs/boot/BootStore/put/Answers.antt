@@ -3,7 +3,7 @@ use Rattle.std.proofs.lemmas.List.Elements.{All-push, All-same}
 use Rattle.space_packet.specs.Charge.{charge_of}
 use Rattle.station.specs.declared.boot.Packet.{Packet}
 use Rattle.station.specs.Kept.{IsKept, packets_of}
-use Rattle.station.specs.Table.{content_in}
+use Rattle.pst_model.specs.Table.{content_in}
 use Rattle.station.proofs.Contents.{content_push}
 use Rattle.station.proofs.boot.BootStore.put.Goals as goal
 

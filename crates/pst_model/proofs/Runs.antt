@@ -1,0 +1,50 @@
+-- Runs of commands, one behind another, and the lines of what goes out.
+use Rattle.std.proofs.Common.{◌≡◌, ℕ, ◌+◌, List, [], ◌∷◌, ◌++◌, length, refl, sym, ◌∙◌, ap, arith, add-zero, append_assoc}
+use Rattle.std.proofs.lemmas.List.{append-nil}
+use Rattle.pst_model.specs.Command.{Command}
+use Rattle.pst_model.specs.Output.{output_line}
+use Rattle.pst_model.specs.Rules.{Output, Step}
+use Rattle.pst_model.specs.Run.{behind_outputs, lines_of, run, run_from, step}
+use Rattle.pst_model.specs.Table.{Table}
+
+pub lines_of-append : (a b : List Output) → lines_of (a ++ b) ≡ lines_of a ++ lines_of b
+lines_of-append [] b = refl
+lines_of-append (output ∷ a) b =
+    let line = output_line output.channel output.packet in
+    ap (λ (lines : List ℕ). line ++ lines) (lines_of-append a b) ∙ sym (append_assoc line (lines_of a) (lines_of b))
+
+-- the run of commands one behind another is the runs of both, one behind the other
+pub run_from-append : (number : ℕ) (table : Table) (a b : List Command)
+    → run_from number table (a ++ b) ≡ behind_outputs (run_from number table a).outputs (run_from (number + length a) (run_from number table a).table b)
+run_from-append number table [] b = ap (λ (n : ℕ). run_from n table b) (sym (add-zero number))
+run_from-append number table (command ∷ a) b =
+    let first = step number command table in
+    let rest = run_from (number + 1) first.table a in
+    let next : number + 1 + length a ≡ number + length (command ∷ a) = omega arith in
+    ap (λ (behind : Step). behind_outputs first.outputs behind) (run_from-append (number + 1) first.table a b)
+    ∙ ap (λ (n : ℕ). behind_outputs first.outputs (behind_outputs rest.outputs (run_from n rest.table b))) next
+    ∙ ap (λ (outputs : List Output). record { table = (run_from (number + length (command ∷ a)) rest.table b).table; outputs = outputs }) (sym (append_assoc first.outputs rest.outputs (run_from (number + length (command ∷ a)) rest.table b).outputs))
+
+module _ (table : Table) (done : List Command) where
+  more : (rest : List Command) → run table (done ++ rest) ≡ behind_outputs (run table done).outputs (run_from (length done + 1) (run table done).table rest)
+  more rest =
+      let count : 1 + length done ≡ length done + 1 = omega arith in
+      run_from-append 1 table done rest ∙ ap (λ (n : ℕ). behind_outputs (run table done).outputs (run_from n (run table done).table rest)) count
+
+  -- one command more: the table behind it, and its lines behind those before it
+  pub run-more_table : (command : Command) → (run table (done ++ command ∷ [])).table ≡ (step (length done + 1) command (run table done).table).table
+  run-more_table command = ap (λ (step : Step). step.table) (more (command ∷ []))
+
+  pub run-more_lines : (command : Command)
+      → lines_of (run table (done ++ command ∷ [])).outputs ≡ lines_of (run table done).outputs ++ lines_of (step (length done + 1) command (run table done).table).outputs
+  run-more_lines command =
+      let next = step (length done + 1) command (run table done).table in
+      ap (λ (step : Step). lines_of step.outputs) (more (command ∷ []))
+      ∙ lines_of-append (run table done).outputs (next.outputs ++ [])
+      ∙ ap (λ (outputs : List Output). lines_of (run table done).outputs ++ lines_of outputs) (append-nil next.outputs)
+
+  -- the lines of fewer commands come first
+  pub lines-prefix : (rest : List Command) → (more : List ℕ) × (lines_of (run table done).outputs ++ more ≡ lines_of (run table (done ++ rest)).outputs)
+  lines-prefix rest =
+      let behind = (run_from (length done + 1) (run table done).table rest).outputs in
+      (lines_of behind, sym (ap (λ (step : Step). lines_of step.outputs) (more rest) ∙ lines_of-append (run table done).outputs behind))

@@ -1,0 +1,137 @@
+-- What a request does to the table, and the reports that answer it (ECSS-E-ST-70-41C, 6.1 and 6.15).
+use Rattle.std.specs.Prelude.{ℕ, ◌+◌, ◌/◌, ◌%◌, ◌==◌, ◌&&◌, Bool, true, false, not, if◌then◌else◌, List, [], ◌∷◌, ◌++◌, length, map, take, drop, Option, Some, None, Result, Ok, Err}
+use Rattle.space_packet.specs.Packet.{apid_of}
+use Rattle.control_defs.specs.declared.instructions.Instruction.{Instruction}
+use Rattle.pus_header.specs.Commands.{acks_of, service_of, subtype_of, tc_fault_of}
+use Rattle.pus_header.specs.declared.faults.TcFault.{TcFault}
+use Rattle.pus_header.specs.declared.faults.TcFault.TheVariants.{NotCommand, NoHeader, WrongVersion}
+use Rattle.pst_model.specs.declared.faults.RequestFault.{RequestFault}
+use Rattle.pst_model.specs.declared.faults.RequestFault.TheVariants.{UnknownService, UnknownSubtype, Malformed}
+use Rattle.pst_model.specs.declared.verdicts.Verdict.{Verdict}
+use Rattle.pst_model.specs.declared.verdicts.Verdict.TheVariants.{Accepted, Refused, Started, StartFailed, Completed, CompletionFailed}
+use Rattle.pst_model.specs.Instructions.{instruct}
+use Rattle.pst_model.specs.Reports.{Report, count_behind, report_packet, verdict_report}
+use Rattle.pst_model.specs.Requests.{items_in, request_fault_of}
+use Rattle.pst_model.specs.Rules.{Output, Reply, Step}
+use Rattle.pst_model.specs.Table.{Table}
+
+-- The judgements before a request's instructions, each with its code and its detail.
+
+abbrev pub header_refusal : TcFault → Verdict
+header_refusal NotCommand = Refused 2 0
+header_refusal NoHeader = Refused 2 1
+header_refusal (WrongVersion version) = Refused 2 (256 + version)
+
+abbrev pub request_refusal : RequestFault → Verdict
+request_refusal (UnknownService service) = Refused 3 service
+request_refusal (UnknownSubtype subtype) = Refused 4 subtype
+request_refusal (Malformed at) = Refused 5 at
+
+abbrev pub refused_by : Option RequestFault → Option Verdict
+refused_by (Some fault) = Some (request_refusal fault)
+refused_by None = None
+
+abbrev pub refused_as : Option TcFault → Option RequestFault → Option Verdict
+refused_as (Some fault) behind = Some (header_refusal fault)
+refused_as None behind = refused_by behind
+
+-- what stands behind both headers of a telecommand
+abbrev pub data_in : List ℕ → List ℕ
+data_in packet = drop 11 packet
+
+-- the first judgement that refuses a request: its APID, its header, its service, its subtype, its data
+abbrev pub refusal_of : List ℕ → Option Verdict
+refusal_of packet =
+    if not (apid_of packet == 10) then Some (Refused 1 (apid_of packet))
+    else refused_as (tc_fault_of packet) (request_fault_of (service_of packet) (subtype_of packet) (data_in packet))
+
+-- Instructions, one behind another: the table behind all that took effect, and for each that failed its
+-- number, from 1, and its code.
+pub record Carried : Type 0 where
+  pub table : Table
+  pub failures : List (ℕ × ℕ)
+
+abbrev pub failed_first : ℕ × ℕ → Carried → Carried
+failed_first failure behind = record { table = behind.table; failures = failure ∷ behind.failures }
+
+-- an instruction's outcome, with what the others behind it make of the table
+abbrev pub carried_by : (number : ℕ) → Table → Result Table ℕ → (Table → Carried) → Carried
+carried_by number table (Ok next) behind = behind next
+carried_by number table (Err code) behind = failed_first (number, code) (behind table)
+
+abbrev pub carry_out_from : (number : ℕ) → List Instruction → Table → Carried
+carry_out_from number [] table = record { table = table; failures = [] }
+carry_out_from number (item ∷ items) table = carried_by number table (instruct item table) (carry_out_from (number + 1) items)
+
+abbrev pub carry_out : List Instruction → Table → Carried
+carry_out items table = carry_out_from 1 items table
+
+-- the acknowledgement flags: of acceptance, of the start, of completion
+abbrev pub asks_acceptance : (acks : ℕ) → Bool
+asks_acceptance acks = acks % 2 == 1
+
+abbrev pub asks_start : (acks : ℕ) → Bool
+asks_start acks = acks / 2 % 2 == 1
+
+abbrev pub asks_completion : (acks : ℕ) → Bool
+asks_completion acks = acks / 8 % 2 == 1
+
+abbrev pub if_asked : Bool → Verdict → List Verdict
+if_asked true verdict = verdict ∷ []
+if_asked false verdict = []
+
+abbrev pub failed_start : ℕ × ℕ → Verdict
+failed_start failure = StartFailed failure.1 failure.0
+
+-- where no instruction failed, [1,3] as asked; else the code 23 with how many failed
+abbrev pub started : (acks : ℕ) → List (ℕ × ℕ) → List Verdict
+started acks [] = if_asked (asks_start acks) Started
+started acks (failure ∷ failures) = []
+
+abbrev pub completed : (acks : ℕ) → List (ℕ × ℕ) → List Verdict
+completed acks [] = if_asked (asks_completion acks) Completed
+completed acks (failure ∷ failures) = CompletionFailed 23 (length (failure ∷ failures)) ∷ []
+
+-- The verdicts on a request that is not refused, in their order: [1,1] where asked, [1,4] for each failed
+-- instruction, [1,3] where asked and none failed, then [1,8] where some failed, else [1,7] where asked.
+abbrev pub verdicts_of : (acks : ℕ) → List (ℕ × ℕ) → List Verdict
+verdicts_of acks failures =
+    if_asked (asks_acceptance acks) Accepted ++ map failed_start failures ++ started acks failures ++ completed acks failures
+
+-- a report as an output, with this sequence count
+abbrev pub reply : (number moment count : ℕ) → Report → Output
+reply number moment count report = record { command = number; kind = Reply; channel = 0; packet = report_packet count moment report }
+
+-- Reports as outputs: each has the count of those before it, modulo 16,384.
+abbrev pub replies_from : (number moment count : ℕ) → List Report → List Output
+replies_from number moment count [] = []
+replies_from number moment count (report ∷ reports) = reply number moment count report ∷ replies_from number moment (count_behind count 1) reports
+
+-- the table behind reports, which went out
+abbrev pub replied : (number moment : ℕ) → Table → List Report → Step
+replied number moment table reports = record {
+  table = record table { reports = count_behind table.reports (length reports) };
+  outputs = replies_from number moment table.reports reports;
+}
+
+-- the request identifier, as reports of service 1 name it
+abbrev pub identifier_of : List ℕ → List ℕ
+identifier_of packet = take 4 packet
+
+abbrev pub on_request : (packet : List ℕ) → List Verdict → List Report
+on_request packet verdicts = map (verdict_report (identifier_of packet)) verdicts
+
+-- a request that is not refused
+abbrev pub answer_carried : (number moment : ℕ) → (packet : List ℕ) → Carried → Step
+answer_carried number moment packet carried =
+    replied number moment carried.table (on_request packet (verdicts_of (acks_of packet) carried.failures))
+
+abbrev pub answer_by : (number moment : ℕ) → (packet : List ℕ) → Table → Option Verdict → Step
+answer_by number moment packet table (Some verdict) = replied number moment table (on_request packet (verdict ∷ []))
+answer_by number moment packet table None =
+    answer_carried number moment packet (carry_out (items_in (subtype_of packet) (data_in packet)) table)
+
+-- A request: where a judgement refuses it, [1,2] alone answers it. Else its instructions are taken in order,
+-- each of which takes effect or fails, and a failed one changes nothing.
+abbrev pub answer : (number moment : ℕ) → (packet : List ℕ) → Table → Step
+answer number moment packet table = answer_by number moment packet table (refusal_of packet)

@@ -1,0 +1,14 @@
+pub mod Acknowledged
+pub mod Answers
+pub mod Command
+pub mod Forms
+pub mod Instructions
+pub mod Laws
+pub mod Least
+pub mod Output
+pub mod Reports
+pub mod Requests
+pub mod Rules
+pub mod Run
+pub mod Table
+pub mod Text

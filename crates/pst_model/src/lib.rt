@@ -1,0 +1,17 @@
+//! What the packet store means (ECSS-E-ST-70-41C, 6.14 and 6.15): the session text, the table of packet
+//! stores, requests and reports, as definitions over plain lists and numbers, with their laws. Nothing
+//! here computes for the program; the crates above cite it.
+#![tactic(auto)]
+
+mod faults;
+mod table;
+mod text;
+mod verdicts;
+
+pub use faults::{LineFault, RequestFault};
+pub use table::{
+    behind_stays_within, circular_stores_refuse_only_larger, failed_instructions_change_nothing, fewest_leave,
+    reports_are_counted, runs_in_turn,
+};
+pub use text::{lines_of_text, written_forms};
+pub use verdicts::Verdict;

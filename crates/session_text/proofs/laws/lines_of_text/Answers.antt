@@ -1,5 +1,0 @@
-use Rattle.session_text.proofs.Joined.{are_lines, joined_lines, lines_joined}
-use Rattle.session_text.proofs.laws.lines_of_text.Goals as goal
-
-pub returns : goal.returns
-returns c = record { text = joined_lines; lines = are_lines; only = lines_joined }

@@ -1,5 +1,0 @@
-use Rattle.session_text.proofs.WrittenForms.{reading_of-faulty, reading_of-spells}
-use Rattle.session_text.proofs.laws.written_forms.Goals as goal
-
-pub returns : goal.returns
-returns c = record { spelled = reading_of-spells; faulty = reading_of-faulty }
