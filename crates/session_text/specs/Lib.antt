@@ -1,10 +1,6 @@
-pub mod Command
 pub mod Find
-pub mod Forms
 pub mod Gain
 pub mod Lending
-pub mod Output
 pub mod Progress
 pub mod Read
 pub mod Shown
-pub mod Text

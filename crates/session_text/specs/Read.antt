@@ -3,13 +3,15 @@ use Rattle.std.specs.Prelude.{◌≤◌, ◌<◌, ◌^◌, ℕ, List, length, ta
 use Rattle.space_packet.specs.Packet.{IsPacket}
 use Rattle.session_text.specs.declared.form.Form.{Form}
 use Rattle.session_text.specs.declared.form.Form.TheVariants as forms
-use Rattle.pst_model.specs.Command.{Command, Arrival, Grant}
+use Rattle.pst_model.specs.Command.{Command, Arrival, Request, Grant}
 
 abbrev pub command_in : List ℕ → Form → Command
 command_in packet (forms.Arrival moment length) = Arrival moment (take length packet)
+command_in packet (forms.Request moment length) = Request moment (take length packet)
 command_in packet (forms.Grant moment) = Grant moment
 
 -- the moment is one, and the buffer begins with a packet of the length that the form says
 abbrev pub IsHeld : List ℕ → Form → Type 0
 IsHeld packet (forms.Arrival moment count) = (moment < 2 ^ 48) × (count ≤ length packet) × IsPacket (take count packet)
+IsHeld packet (forms.Request moment count) = (moment < 2 ^ 48) × (count ≤ length packet) × IsPacket (take count packet)
 IsHeld packet (forms.Grant moment) = moment < 2 ^ 48

@@ -7,6 +7,8 @@ use space_packet::PacketView;
 pub enum Command<'a> {
     /// A packet arrives.
     Arrival { moment: u64, packet: PacketView<'a> },
+    /// A ground request arrives, in any packet.
+    Request { moment: u64, packet: PacketView<'a> },
     /// The downlink has room for one packet.
     Grant { moment: u64 },
 }

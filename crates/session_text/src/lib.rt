@@ -5,15 +5,14 @@ mod command;
 mod fault;
 mod form;
 mod held;
-mod laws;
 mod lines;
 mod output;
 
 pub use command::Command;
-pub use fault::{LineEnd, LineFault};
-pub use laws::{lines_of_text, written_forms};
+pub use fault::LineEnd;
 pub use lines::Lines;
 pub use output::write_line;
+pub use pst_model::LineFault;
 
 #[cfg(test)]
 mod tests;

@@ -5,11 +5,12 @@ ghost use Rattle.board.specs.Counts.{Rose};
 ghost use Rattle.session_text.specs.Find.{Finds, OnFailed, UnlessFailed};
 
 use crate::command::Command;
-use crate::fault::{LineEnd, LineFault};
+use crate::fault::LineEnd;
 use crate::form::{Form, read_form};
 use crate::held::Held;
 use board::Source;
 use memchr::memchr;
+use pst_model::LineFault;
 use space_packet::PacketView;
 use std::alloc::{AllocError, Global};
 
@@ -194,6 +195,10 @@ impl Lines {
     {
         match form {
             Form::Arrival { moment, length } => Command::Arrival {
+                moment,
+                packet: PacketView::new(&self.packet[..length]),
+            },
+            Form::Request { moment, length } => Command::Request {
                 moment,
                 packet: PacketView::new(&self.packet[..length]),
             },

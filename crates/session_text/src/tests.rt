@@ -46,7 +46,7 @@ fn end_of(lines: &mut Lines, source: &mut Pieces) -> Option<LineEnd>
 
 #[test]
 fn commands_come_one_by_one_and_then_none(rt: HostRuntime) -> Result<(), Fail> {
-    let text = b"A 000000000010 0864c000000d20031900000000000000000010aa\nG 000000000011\n";
+    let text = b"A 000000000010 0864c000000d20031900000000000000000010aa\nG 000000000011\nR 000000000012 07ffc000000000\n";
     for most in [1, 7, 4096] {
         let mut source = Pieces { text, most };
         let mut lines = Lines::new(rt.alloc(), text.len() as u64)?;
@@ -64,6 +64,14 @@ fn commands_come_one_by_one_and_then_none(rt: HostRuntime) -> Result<(), Fail> {
             _ => assert!(rt; false, "no grant in pieces of {most}"),
         }
         assert!(rt; lines.is_live());
+        match lines.next_line(&mut source) {
+            Ok(Some(Command::Request { moment, packet })) => {
+                assert_eq!(rt; moment, 18, "pieces of {most}");
+                assert!(rt; packet.is_idle(), "pieces of {most}");
+            }
+            _ => assert!(rt; false, "no request in pieces of {most}"),
+        }
+        assert!(rt; lines.is_live());
         assert!(rt;
             matches!(lines.next_line(&mut source), Ok(None)),
             "pieces of {most}"
@@ -78,7 +86,7 @@ fn the_first_bad_line_ends_the_reading(rt: HostRuntime) -> Result<(), Fail> {
     let short = PacketFault::Short { have: 19, need: 20 };
     let version = PacketFault::Version { found: 1 };
     let few = PacketFault::Short { have: 1, need: 6 };
-    let rows: [(&[u8], LineFault); 22] = [
+    let rows: [(&[u8], LineFault); 24] = [
         (b"a 000000000010 00\n", LineFault::Form),
         (b"A 00000000001 00\n", LineFault::Form),
         (b"A 0000000000010 00\n", LineFault::Form),
@@ -93,7 +101,8 @@ fn the_first_bad_line_ends_the_reading(rt: HostRuntime) -> Result<(), Fail> {
         (b"G\n", LineFault::Form),
         (b"\n", LineFault::Form),
         (b"# x\n", LineFault::Form),
-        (b"R 000000000001 00\n", LineFault::Form),
+        (b"R 000000000001\n", LineFault::Form),
+        (b"r 000000000001 180ac0000004290f120000\n", LineFault::Form),
         (b"I 000000000001\n", LineFault::Form),
         // the last line has no LF
         (b"G 000000000011", LineFault::Form),
@@ -111,6 +120,7 @@ fn the_first_bad_line_ends_the_reading(rt: HostRuntime) -> Result<(), Fail> {
         ),
         (b"A 000000000010 00\n", LineFault::Packet(few)),
         (b"A 000000000010 0F\n", LineFault::Packet(few)),
+        (b"R 000000000001 0F\n", LineFault::Packet(few)),
     ];
     for (text, why) in rows {
         let mut source = Pieces { text, most: 4096 };
