@@ -25,6 +25,7 @@ impl Area {
 
         ensures read { OnOk result (IsTrue (B.device board.old).tells_flash → into.new ≡ area_of (256 * self.first) (B.flash board.old).content at) }
         ensures reads { ReadsOnly B.device B.flash B.moment B.images B.sent B.counts 1 board.old board.new }
+        ensures no_fault { OnOk result ((B.counts board.new).flash_faults ≡ (B.counts board.old).flash_faults) }
         ensures cause { OnErr result (Rose (B.counts board.old).flash_faults (B.counts board.new).flash_faults) }
     {
         board.read_page(self.first + at / 256, at % 256, into)
@@ -44,6 +45,7 @@ impl Area {
         ensures unsent { IsTrue (B.device board.old).tells_link → SendsNothing B.moment B.sent board.old board.new }
         ensures same { B.device board.new ≡ B.device board.old }
         ensures work { Works 0 1 0 (B.counts board.old) (B.counts board.new) }
+        ensures no_fault { OnOk result ((B.counts board.new).flash_faults ≡ (B.counts board.old).flash_faults) }
         ensures cause { OnErr result (Rose (B.counts board.old).flash_faults (B.counts board.new).flash_faults) }
     {
         board.program(self.first + at / 256, at % 256, from)

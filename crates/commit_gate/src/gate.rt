@@ -57,6 +57,7 @@ pub fn append<B: Board>(board: &mut B, area: Area, at: u32, entry: &[u8]) -> Res
     ensures unsent { IsTrue (B.device board.old).tells_link → SendsNothing B.moment B.sent board.old board.new }
     ensures same { B.device board.new ≡ B.device board.old }
     ensures work { Works 0 (1 + payload_pages (length entry.now)) 0 (B.counts board.old) (B.counts board.new) }
+    ensures no_fault { OnOk result ((B.counts board.new).flash_faults ≡ (B.counts board.old).flash_faults) }
     ensures cause { OnErr result (Rose (B.counts board.old).flash_faults (B.counts board.new).flash_faults) }
 {
     write_text(board, area, at + 1, entry)?;

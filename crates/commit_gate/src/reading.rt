@@ -1,5 +1,5 @@
 // The entries of an area, one after the other.
-ghost use Rattle.std.specs.Prelude.{◌≡◌, ◌⊎◌, ◌<◌, ◌≤◌, ◌*◌, length, IsTrue, IfOk, OnErr};
+ghost use Rattle.std.specs.Prelude.{◌≡◌, ◌⊎◌, ◌<◌, ◌≤◌, ◌*◌, length, IsTrue, IfOk, OnOk, OnErr};
 ghost use Rattle.board.specs.Counts.{Rose};
 ghost use Rattle.board.specs.Reads.{ReadsOnly};
 ghost use Rattle.commit_gate.specs.Entries.{area_of, entry_at, is_open};
@@ -36,6 +36,7 @@ fn read_gate<B: Board>(board: &mut B, area: Area, at: u32) -> Result<bool, Faile
 
     ensures shown { IfOk result (λ shown. IsTrue (B.device board.old).tells_flash → shown ≡ is_open (area_of (256 * area.first) (B.flash board.old).content at)) }
     ensures reads { ReadsOnly B.device B.flash B.moment B.images B.sent B.counts 1 board.old board.new }
+    ensures no_fault { OnOk result ((B.counts board.new).flash_faults ≡ (B.counts board.old).flash_faults) }
     ensures cause { OnErr result (Rose (B.counts board.old).flash_faults (B.counts board.new).flash_faults) }
 {
     let mut page = [0; 256];
@@ -58,6 +59,7 @@ pub fn next_entry<'a, B: Board>(
     ensures next { IfOk result (λ next. IsTrue (B.device board.old).tells_flash → entry_at (area_of (256 * area.first) (B.flash board.old).content) at ≡ shown next) }
     ensures range { IfOk result (λ next. IsInArea at next) }
     ensures reads { ReadsOnly B.device B.flash B.moment B.images B.sent B.counts 21 board.old board.new }
+    ensures no_fault { OnOk result ((B.counts board.new).flash_faults ≡ (B.counts board.old).flash_faults) }
     ensures cause { OnErr result (Rose (B.counts board.old).flash_faults (B.counts board.new).flash_faults) }
 {
     if at > 510 {

@@ -32,6 +32,7 @@ pub fn write_text<B: Board>(
     ensures unsent { IsTrue (B.device board.old).tells_link → SendsNothing B.moment B.sent board.old board.new }
     ensures same { B.device board.new ≡ B.device board.old }
     ensures work { Works 0 (payload_pages (length text.now)) 0 (B.counts board.old) (B.counts board.new) }
+    ensures no_fault { OnOk result ((B.counts board.new).flash_faults ≡ (B.counts board.old).flash_faults) }
     ensures cause { OnErr result (Rose (B.counts board.old).flash_faults (B.counts board.new).flash_faults) }
 {
     let mut page = [0; 256];
@@ -57,6 +58,7 @@ pub fn read_length<B: Board>(
     ensures page { OnOk result (IsTrue (B.device board.old).tells_flash → take 256 buf.new ≡ area_of (256 * area.first) (B.flash board.old).content first) }
     ensures length { IfOk result (λ found. IsTrue (B.device board.old).tells_flash → found ≡ length_in (area_of (256 * area.first) (B.flash board.old).content first)) }
     ensures reads { ReadsOnly B.device B.flash B.moment B.images B.sent B.counts 1 board.old board.new }
+    ensures no_fault { OnOk result ((B.counts board.new).flash_faults ≡ (B.counts board.old).flash_faults) }
     ensures cause { OnErr result (Rose (B.counts board.old).flash_faults (B.counts board.new).flash_faults) }
 {
     area.read_page(board, first, &mut buf[..256])?;
@@ -81,6 +83,7 @@ pub fn read_rest<B: Board>(
     ensures read { OnOk result (IsTrue (B.device board.old).tells_flash
         → take (256 * pages) buf.new ≡ octets_from (area_of (256 * area.first) (B.flash board.old).content) first pages) }
     ensures reads { ReadsOnly B.device B.flash B.moment B.images B.sent B.counts (pages - 1) board.old board.new }
+    ensures no_fault { OnOk result ((B.counts board.new).flash_faults ≡ (B.counts board.old).flash_faults) }
     ensures cause { OnErr result (Rose (B.counts board.old).flash_faults (B.counts board.new).flash_faults) }
 {
     for i in 1..pages {

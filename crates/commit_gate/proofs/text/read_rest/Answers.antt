@@ -1,4 +1,4 @@
-use Rattle.std.proofs.Common.{◌+◌, ◌*◌, sym, ◌∙◌, ap, arith}
+use Rattle.std.proofs.Common.{refl, ◌+◌, ◌*◌, sym, ◌∙◌, ap, arith}
 use Rattle.board.specs.Flash.{Flash}
 use Rattle.board.proofs.Reading.{reads_most, reads_none, reads_on}
 use Rattle.board.proofs.Works.{tells_too}
@@ -12,6 +12,7 @@ loop-i-init g c =
     let board = g.B.Board in
     record {
       read = λ told. c.requires.page told ∙ sym (octets_one (area_of (256 * c.args.area.first) (board.flash c.args.board.now).content) c.args.first);
+      no_fault = refl;
       reads = reads_none board.device board.flash board.moment board.images board.sent board.counts c.args.board.now (λ image told left. g.met.B.Board.images_now c.args.board.now image told left);
     }
 
@@ -23,6 +24,7 @@ loop-i-preserved g c =
     record {
       read = λ told. page_read (area_of base (board.flash c.args.board.now).content) c.args.first c.loop-i.i c.loop-i.buf c.read_page.new.into (omega arith) (omega arith) (so_far.read told)
           (c.in_ok-read_page.ensures.read (tells_too so_far.reads.same told) ∙ ap (λ (f : Flash). area_of base f.content (c.args.first + c.loop-i.i)) (so_far.reads.stays told));
+      no_fault = c.in_ok-read_page.ensures.no_fault ∙ so_far.no_fault;
       reads = reads_most board.device board.flash board.moment board.images board.sent board.counts c.args.board.now c.read_page.new.board
           (reads_on board.device board.flash board.moment board.images board.sent board.counts c.args.board.now c.loop-i.board c.read_page.new.board so_far.reads c.read_page.ensures.reads) (omega arith);
     }

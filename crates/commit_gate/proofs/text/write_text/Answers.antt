@@ -17,6 +17,7 @@ loop-index-init g c =
     let these = pages_from first (payload_pages (length c.args.text.now)) in
     let blocks = (board.device c.args.board.now).blocks in
     record {
+      no_fault = refl;
       flash = λ told. sym (written_none first (payload_at first c.args.text.now) (board.flash c.args.board.now));
       others = λ told p other. refl;
       leaves = λ told. started board.moment board.images c.args.board.now (IsImage blocks (loosened these (board.flash c.args.board.now)))
@@ -59,5 +60,6 @@ loop-index-preserved g c =
           (subst (λ (p : ℕ). IsImage (board.device c.loop-index.board).blocks (loosened (only_page p) mid) image) number is)));
       unsent = λ told. sends_nothing_on board.moment board.sent c.args.board.now c.loop-index.board c.program.new.board (so_far.unsent told) (c.program.ensures.unsent (links_too so_far.same told));
       same = c.program.ensures.same ∙ so_far.same;
+      no_fault = c.in_ok-program.ensures.no_fault ∙ so_far.no_fault;
       work = works_on so_far.work c.program.ensures.work;
     }

@@ -17,5 +17,6 @@ invariant-loop-index g l =
           (IsImage (board.device l.fn.board).blocks (loosened (pages_from first (payload_pages (length l.text))) (board.flash l.fn.board)));
       unsent : IsTrue (board.device l.fn.board).tells_link → SendsNothing board.moment board.sent l.fn.board l.board;
       same : board.device l.board ≡ board.device l.fn.board;
+      no_fault : (board.counts l.board).flash_faults ≡ (board.counts l.fn.board).flash_faults;
       work : Works 0 l.index 0 (board.counts l.fn.board) (board.counts l.board);
     }
