@@ -1,3 +1,4 @@
+mod AnswerRows
 pub mod Carried
 pub mod Counted
 pub mod Joined

@@ -1,0 +1,10 @@
+//! One command at a time: what a packet, a request or a grant does to the table, and the lines that go out.
+#![tactic(auto)]
+
+mod sending;
+mod sent;
+mod verdicts;
+
+pub use sending::send_line;
+pub use sent::Sent;
+pub use verdicts::{Failures, Verdicts, verdicts_on};
