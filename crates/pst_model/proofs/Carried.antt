@@ -1,11 +1,11 @@
 -- What instructions keep of the table.
-use Rattle.std.proofs.Common.{◌≡◌, ℕ, ◌+◌, Bool, true, false, List, [], ◌∷◌, Option, Some, None, Result, Ok, Err, refl, sym, ◌∙◌, ap, subst}
+use Rattle.std.proofs.Common.{◌≡◌, ℕ, ◌+◌, Bool, true, false, List, [], ◌∷◌, ◌++◌, length, Option, Some, None, Result, Ok, Err, refl, sym, ◌∙◌, ap, subst, arith}
 use Rattle.std.proofs.lemmas.Bool.{cond_both}
 use Rattle.std.proofs.lemmas.List.Elements.{All-cons, All-head, All-tail}
 use Rattle.std.specs.Prelude.{All, IfOk, IfSome, find, if◌then◌else◌}
 use Rattle.control_defs.specs.declared.instructions.Instruction.{Instruction}
 use Rattle.control_defs.specs.declared.instructions.Instruction.TheVariants.{Enable, Disable, Resume, Suspend}
-use Rattle.pst_model.specs.Answers.{Carried, carried_by, carry_out_from}
+use Rattle.pst_model.specs.Answers.{Carried, carried_by, carry_out_from, failed_first}
 use Rattle.pst_model.specs.Instructions.{already_so, change_found, change_store, instruct, is_named, set_open, set_storage, with_changed}
 use Rattle.pst_model.specs.Rules.{at_first}
 use Rattle.pst_model.specs.Table.{Store, Table}
@@ -19,6 +19,29 @@ module _ (P : Table → Type 0) (keeps : (item : Instruction) (table : Table) �
       by : (outcome : Result Table ℕ) → IfOk outcome P → ((next : Table) → P next → P (carry_out_from (number + 1) items next).table) → P (carried_by number table outcome (carry_out_from (number + 1) items)).table
       by (Ok next) kept rest = rest next kept
       by (Err code) kept rest = rest table holds
+
+-- Instructions, and others behind them.
+
+-- failures in front of those of the others
+abbrev pub behind_failures : List (ℕ × ℕ) → Carried → Carried
+behind_failures failures carried = record { table = carried.table; failures = failures ++ carried.failures }
+
+pub carry_out-append : (number : ℕ) (xs ys : List Instruction) (table : Table)
+    → carry_out_from number (xs ++ ys) table ≡ behind_failures (carry_out_from number xs table).failures (carry_out_from (number + length xs) ys (carry_out_from number xs table).table)
+carry_out-append number [] ys table = ap (λ (n : ℕ). carry_out_from n ys table) (omega arith)
+carry_out-append number (item ∷ xs) ys table = by (instruct item table) (carry_out-append (number + 1) xs ys)
+  where
+    -- the numbers of those behind
+    on : (next : Table) → behind_failures (carry_out_from (number + 1) xs next).failures (carry_out_from (number + 1 + length xs) ys (carry_out_from (number + 1) xs next).table)
+        ≡ behind_failures (carry_out_from (number + 1) xs next).failures (carry_out_from (number + length (item ∷ xs)) ys (carry_out_from (number + 1) xs next).table)
+    on next = ap (λ (n : ℕ). behind_failures (carry_out_from (number + 1) xs next).failures (carry_out_from n ys (carry_out_from (number + 1) xs next).table)) (omega arith)
+
+    by : (outcome : Result Table ℕ)
+        → ((next : Table) → carry_out_from (number + 1) (xs ++ ys) next ≡ behind_failures (carry_out_from (number + 1) xs next).failures (carry_out_from (number + 1 + length xs) ys (carry_out_from (number + 1) xs next).table))
+        → carried_by number table outcome (carry_out_from (number + 1) (xs ++ ys))
+        ≡ behind_failures (carried_by number table outcome (carry_out_from (number + 1) xs)).failures (carry_out_from (number + length (item ∷ xs)) ys (carried_by number table outcome (carry_out_from (number + 1) xs)).table)
+    by (Ok next) rest = rest next ∙ on next
+    by (Err code) rest = ap (failed_first (number, code)) (rest table ∙ on table)
 
 -- what a change of one store keeps
 module _ (P : Table → Type 0) (identifier : ℕ) (table : Table) (change : Store → Result Store ℕ)

@@ -1,5 +1,5 @@
 -- Each report raises the count of reports by one.
-use Rattle.std.proofs.Common.{◌≡◌, ◌<◌, ℕ, ◌+◌, ◌%◌, Bool, true, false, List, [], ◌∷◌, Option, Some, None, length, refl, sym, ◌∙◌, ap, arith}
+use Rattle.std.proofs.Common.{◌≡◌, ◌<◌, ℕ, ◌+◌, ◌%◌, Bool, true, false, List, [], ◌∷◌, ◌++◌, Option, Some, None, length, refl, sym, ◌∙◌, ap, arith}
 use Rattle.std.proofs.lemmas.Bool.{cond_both}
 use Rattle.std.proofs.lemmas.List.Sums.{sum_by-cons}
 use Rattle.std.specs.Prelude.{find, map, max, ◌==◌, if◌then◌else◌}
@@ -26,6 +26,23 @@ replies_in-replies number moment count (report ∷ reports) =
     sum_by-cons (λ (output : Output). if is_reply output.kind then 1 else 0) (reply number moment count report) (replies_from number moment (count_behind count 1) reports)
     ∙ ap (λ (n : ℕ). 1 + n) (replies_in-replies number moment (count_behind count 1) reports) ∙ omega arith
 
+-- no report is none more
+none : (count : ℕ) → count < 16384 → count ≡ count_behind count 0
+none count small = omega arith
+
+-- counts of reports, one behind the other
+pub count_behind-more : (count a b : ℕ) → count_behind (count_behind count a) b ≡ count_behind count (a + b)
+count_behind-more count a b = omega arith
+
+pub replies_from-append : (number moment count : ℕ) (xs ys : List Report) → count < 16384
+    → replies_from number moment count (xs ++ ys) ≡ replies_from number moment count xs ++ replies_from number moment (count_behind count (length xs)) ys
+replies_from-append number moment count [] ys small = ap (λ (n : ℕ). replies_from number moment n ys) (none count small)
+replies_from-append number moment count (report ∷ xs) ys small =
+    ap (λ (rest : List Output). reply number moment count report ∷ rest)
+    (replies_from-append number moment (count_behind count 1) xs ys (omega arith)
+    ∙ ap (λ (n : ℕ). replies_from number moment (count_behind count 1) xs ++ replies_from number moment n ys)
+    (count_behind-more count 1 (length xs) ∙ ap (count_behind count) (omega arith)))
+
 -- a step whose reports are counted behind this count
 abbrev IsCounted : ℕ → Step → Type 0
 IsCounted count step = step.table.reports ≡ count_behind count (replies_in step.outputs)
@@ -40,10 +57,6 @@ answer_counted number moment packet table None =
     let carried = carry_out (items_in (subtype_of packet) (data_in packet)) table in
     replied_counted number moment table.reports carried.table (on_request packet (verdicts_of (acks_of packet) carried.failures))
     (carry_keeps (λ (next : Table). next.reports ≡ table.reports) (instruct_reports table.reports) 1 (items_in (subtype_of packet) (data_in packet)) table refl)
-
--- no report is none more
-none : (count : ℕ) → count < 16384 → count ≡ count_behind count 0
-none count small = omega arith
 
 arrive_counted : (number moment : ℕ) (packet : List ℕ) (table : Table) → table.reports < 16384 → IsCounted table.reports (arrive number moment packet table)
 arrive_counted number moment packet table small =
