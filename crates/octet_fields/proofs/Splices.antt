@@ -64,6 +64,16 @@ Writes-then {xs} {ws} {vs} {ys} {zs} {a} {b} first next side =
           ∙ splice-splice xs a (a + length ys) (a + length (ys ++ zs)) ys zs (omega (arith, total, same)) refl (omega (arith, length-append ys zs));
     }
 
+-- a write at the front, and the same as an equation
+pub Writes-at_front : {old new ys : List ℕ} → Writes old new 0 ys → new ≡ ys ++ drop (length ys) old
+Writes-at_front {old} {new} {ys} w = w.after ∙ ap (λ n. ys ++ drop n old) (omega arith)
+
+pub Writes-from_front : (old new ys : List ℕ) → length ys ≤ length old → new ≡ ys ++ drop (length ys) old → Writes old new 0 ys
+Writes-from_front old new ys room is = record {
+  room = omega arith;
+  after = is ∙ ap (λ n. ys ++ drop n old) (omega arith);
+}
+
 -- a write of one octet, as `s[a] = y` makes it
 pub Writes-set : (xs : List ℕ) (a y : ℕ) → a < length xs → Writes xs (set xs a y) a (y ∷ [])
 Writes-set xs a y h = record {

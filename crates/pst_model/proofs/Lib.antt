@@ -4,6 +4,7 @@ pub mod Counted
 pub mod Joined
 pub mod Leasts
 pub mod Puts
+mod ReportRows
 pub mod Runs
 mod TableRows
 mod TextRows

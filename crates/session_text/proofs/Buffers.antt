@@ -6,7 +6,6 @@ use Rattle.std.specs.List.{copy_within}
 use Rattle.std.specs.Prelude.{slice_range, Vec, Result, Ok, Err, OnErr}
 use Rattle.std.specs.Vec.{with_items}
 use borrow.Rule.Slice.PartMut.{put_mid, same_len_mid}
-use Rattle.octet_fields.specs.Fields.{Writes}
 
 -- These octets stand between the two places.
 pub record Stands (octets : List ℕ) (start end : ℕ) (held : List ℕ) : Type 0 where
@@ -57,10 +56,6 @@ Stands-gained octets part rest start end count held stands fits =
     ∙ ap (drop start) (take_at (take end octets ++ take count part) (drop count part ++ rest) (end + count) (omega (arith, length-append (take end octets) (take count part))))
     ∙ drop-append-le start (take end octets) (take count part) (omega arith)
     ∙ ap (λ (l : List ℕ). l ++ take count part) (sym (between_is octets start end) ∙ stands.between)
-
--- a write at the front
-pub Writes-at_front : {old new text : List ℕ} → Writes old new 0 text → new ≡ text ++ drop (length text) old
-Writes-at_front {old} {new} {text} written = written.after ∙ ap (λ n. text ++ drop n old) (omega arith)
 
 -- what a vector holds after a write behind a place
 pub items-put : {Z : Type 0} (octets : Vec ℕ Z) (end : ℕ) (items part : List ℕ) → length items ≡ octets.len

@@ -1,6 +1,5 @@
 use Rattle.std.proofs.Common.{[], ◌∷◌, arith, length-append}
-use Rattle.session_text.proofs.Buffers.{Writes-at_front}
-use Rattle.octet_fields.proofs.Splices.{Writes-then}
+use Rattle.octet_fields.proofs.Splices.{Writes-at_front, Writes-then}
 use Rattle.hex.specs.Hex.{encode_lower, lower_digits}
 use Rattle.hex.proofs.HexLemmas.{length-encode_with}
 use Rattle.session_text.proofs.output.write_line.Goals as goal
