@@ -3,9 +3,13 @@ pub mod Counted
 pub mod Joined
 pub mod Leasts
 pub mod Puts
+pub mod RequestItems
+mod RequestRows
 pub mod Runs
+pub mod SpelledRequests
 mod TableRows
 mod TextRows
 pub mod Texts
 pub mod Withins
 pub mod WrittenForms
+pub mod WrittenRequests
