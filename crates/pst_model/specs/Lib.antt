@@ -6,6 +6,7 @@ pub mod Instructions
 pub mod Laws
 pub mod Least
 pub mod Output
+pub mod ReadBack
 pub mod Reports
 pub mod Requests
 pub mod Rules

@@ -31,6 +31,16 @@ subtype_asked (Resume store) = Some 15
 subtype_asked (Suspend store) = Some 16
 subtype_asked _ = None
 
+-- the subtype that an item asks for, and 0 where it asks for none
+abbrev pub subtype_by : Option ℕ → ℕ
+subtype_by (Some subtype) = subtype
+subtype_by None = 0
+
+-- the subtype of the first item, and 0 where there is none
+abbrev pub subtype_of_items : List Instruction → ℕ
+subtype_of_items [] = 0
+subtype_of_items (item ∷ items) = subtype_by (subtype_asked item)
+
 -- an instruction of this subtype, whose store has its two octets
 abbrev pub IsStore : ℕ → Type 0
 IsStore store = store < 65536

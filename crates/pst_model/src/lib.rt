@@ -4,11 +4,13 @@
 #![tactic(auto)]
 
 mod faults;
+mod requests;
 mod table;
 mod text;
 mod verdicts;
 
 pub use faults::{LineFault, RequestFault};
+pub use requests::{no_spelling_begins_another, one_reading, request_or_fault, written_requests_read_back};
 pub use table::{
     behind_stays_within, circular_stores_refuse_only_larger, failed_instructions_change_nothing, fewest_leave,
     reports_are_counted, runs_in_turn,

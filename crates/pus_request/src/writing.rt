@@ -1,0 +1,78 @@
+// Instructions as the request that asks for them.
+ghost use Rattle.std.specs.Prelude.{◌≡◌, ◌<◌, ◌≤◌, ◌+◌, ◌++◌, length, drop};
+ghost use Rattle.octet_fields.specs.Fields.{Writes};
+ghost use Rattle.space_packet.specs.Header.{header_of};
+ghost use Rattle.pst_model.specs.Requests.{AreAsked, items_octets, request_packet, request_primary, request_secondary, subtype_of_items};
+
+use crate::kinds::{ITEM, SERVICE, put_item, subtype_asked};
+use control_defs::Instruction;
+use octet_fields::{put_u8, put_u16};
+use space_packet::{Primary, write_primary};
+
+/// The APID of this program.
+const APID: u16 = 10;
+
+/// The sequence flags of an unsegmented packet (CCSDS 133.0-B, 4.1.3.4.2).
+const UNSEGMENTED: u8 = 3;
+
+/// The PUS version number.
+const PUS_VERSION: u8 = 2;
+
+/// The octets of both headers.
+const HEADERS: usize = 11;
+
+/// Writes the two headers of a request with `size` octets of data.
+fn write_headers(count: u16, acks: u8, subtype: u8, source: u16, size: u16, out: &mut [u8])
+    requires count_fits { count < 16384 }
+    requires acks_fit { acks < 16 }
+    requires size_fits { size ≤ 513 }
+    requires room { 11 ≤ length out.old }
+    ensures { out.new ≡ header_of (request_primary count size) ++ request_secondary acks subtype source ++ drop 11 out.old }
+{
+    let head = Primary {
+        command: true,
+        secondary: true,
+        apid: APID,
+        flags: UNSEGMENTED,
+        count,
+        length: 5 + size - 1,
+    };
+    write_primary(head, out);
+    put_u8(out, 6, PUS_VERSION * 16 + acks);
+    put_u8(out, 7, SERVICE);
+    put_u8(out, 8, subtype);
+    put_u16(out, 9, source);
+}
+
+/// Writes the items of instructions from `at` on, one behind another, and leaves the rest.
+fn put_items(items: &[Instruction], out: &mut [u8], at: usize)
+    requires { at + length (items_octets items.now) ≤ length out.old }
+    ensures { Writes out.old out.new at (items_octets items.now) }
+{
+    let mut place = at;
+    for item in items {
+        place = put_item(*item, out, place);
+    }
+}
+
+/// Writes the request for instructions at the front of `out`, which has at least 524 octets, and answers
+/// its length in octets. The rest of `out` stays. The instructions are 1 to 32 of one known kind. The
+/// request is a telecommand of APID 10 with this sequence count, below 16,384 (CCSDS 133.0-B, 4.1.3);
+/// its secondary header (ECSS-E-ST-70-41C, 7.4.4) has PUS version number 2, these acknowledgement flags,
+/// below 16, and this source identifier.
+pub fn write_request(count: u16, acks: u8, source: u16, items: &[Instruction], out: &mut [u8]) -> u32
+    requires count_fits { count < 16384 }
+    requires acks_fit { acks < 16 }
+    requires asked { AreAsked (subtype_of_items items.now) items.now }
+    requires room { 524 ≤ length out.old }
+    ensures length { result ≡ length (request_packet count acks (subtype_of_items items.now) source items.now) }
+    ensures packet { let packet = request_packet count acks (subtype_of_items items.now) source items.now in
+        out.new ≡ packet ++ drop (length packet) out.old }
+{
+    let subtype = subtype_asked(items[0]).unwrap_or(0);
+    let size = 1 + ITEM * items.len();
+    write_headers(count, acks, subtype, source, size as u16, out);
+    put_u8(out, HEADERS, items.len() as u8);
+    put_items(items, out, HEADERS + 1);
+    (HEADERS + size) as u32
+}
