@@ -19,6 +19,7 @@ pub fn send_line<B: Board>(
     requires short { length packet.now ≤ 4096 }
     requires room { 8195 ≤ length line.old }
     ensures octets { IfOk result (λ octets. octets ≡ length (output_line channel packet.now)) }
+    ensures few { IfOk result (λ octets. octets ≤ 8195) }
     ensures sends { OnOk result ((number : ℕ) (kind : OutputKind) → SendsLines B.device B.moment B.sent B.counts board.old board.new
         (record { command = number; kind = kind; channel = channel; packet = packet.now } ∷ [])) }
     ensures breaks { OnErr result ((number : ℕ) (kind : OutputKind) → BreaksIn B.device B.moment B.sent B.counts board.old board.new

@@ -22,6 +22,7 @@ pub fn write_line(channel: u8, packet: &[u8], out: &mut [u8]) -> u32
     requires short { length packet.now ≤ 4096 }
     requires room { 8195 ≤ length out.old }
     ensures length { result ≡ length (output_line channel packet.now) }
+    ensures few { result ≤ 8195 }
     ensures line { out.new ≡ output_line channel packet.now ++ drop (length (output_line channel packet.now)) out.old }
 {
     let end = 2 + 2 * packet.len();

@@ -1,0 +1,85 @@
+// What reports and lines are written into before they are sent.
+ghost use Rattle.std.specs.Prelude.{◌≡◌, ◌≤◌, ◌<◌, ◌^◌, ◌∷◌, [], ℕ, length, take, IfOk, OnOk, OnErr};
+ghost use Rattle.handler.specs.Sending.{BreaksIn, SendsLines};
+ghost use Rattle.pst_model.specs.Answers.{reply};
+ghost use Rattle.pst_model.specs.Output.{output_line};
+ghost use Rattle.pst_model.specs.Reports.{report_packet, verdict_report};
+ghost use Rattle.pst_model.specs.Rules.{OutputKind};
+
+use crate::sending::send_line;
+use board::{Board, Failed};
+use pus_report::{Head, Verdict, write_verdict};
+use std::alloc::{AllocError, Global};
+
+/// The octets of the longest report.
+const LONGEST_REPORT: usize = 1024;
+
+/// The octets of the longest output line.
+const LONGEST_LINE: usize = 8195;
+
+/// The channel of forwarded packets and of reports.
+const REPORTS: u8 = 0;
+
+/// Room for one report and one line.
+#[derive(Drop)]
+pub struct Buffers {
+    report: Vec<u8>,
+    line: Vec<u8>,
+    ghost report_room: { length report.items ≡ 1024 },
+    ghost line_room: { length line.items ≡ 8195 },
+}
+
+impl Buffers {
+    /// Empty buffers.
+    pub fn new(alloc: Global) -> Result<Buffers, AllocError> {
+        Ok(Buffers {
+            report: vec![in alloc; 0; LONGEST_REPORT]?,
+            line: vec![in alloc; 0; LONGEST_LINE]?,
+        })
+    }
+
+    /// Sends the line of a packet of at most 4,096 octets on a channel below 8, and answers its octets.
+    pub fn send<B: Board>(&mut self, board: &mut B, channel: u8, packet: &[u8]) -> Result<u32, Failed>
+        requires digit { channel < 8 }
+        requires short { length packet.now ≤ 4096 }
+        ensures octets { IfOk result (λ octets. octets ≡ length (output_line channel packet.now)) }
+        ensures few { IfOk result (λ octets. octets ≤ 8195) }
+        ensures sends { OnOk result ((number : ℕ) (kind : OutputKind) → SendsLines B.device B.moment B.sent B.counts board.old board.new
+            (record { command = number; kind = kind; channel = channel; packet = packet.now } ∷ [])) }
+        ensures breaks { OnErr result ((number : ℕ) (kind : OutputKind) → BreaksIn B.device B.moment B.sent B.counts board.old board.new
+            (record { command = number; kind = kind; channel = channel; packet = packet.now } ∷ [])) }
+    {
+        send_line(board, channel, packet, &mut self.line)
+    }
+
+    // Writes the report of a verdict, and answers its length.
+    fn write_verdict(&mut self, head: Head, verdict: Verdict, request: [u8; 4]) -> u32
+        requires count { head.count < 16384 }
+        requires moment { head.moment < 2 ^ 48 }
+        ensures front { take result self.new.report.items ≡ report_packet head.count head.moment (verdict_report request verdict) }
+        ensures short { result ≤ 1024 }
+    {
+        write_verdict(head, verdict, request, &mut self.report)
+    }
+
+    /// Sends the report of a verdict on the request with this identifier, and answers the octets of its line.
+    pub fn send_verdict<B: Board>(
+        &mut self,
+        board: &mut B,
+        head: Head,
+        verdict: Verdict,
+        request: [u8; 4],
+    ) -> Result<u32, Failed>
+        requires count { head.count < 16384 }
+        requires moment { head.moment < 2 ^ 48 }
+        ensures octets { IfOk result (λ octets. octets ≡ length (output_line 0 (report_packet head.count head.moment (verdict_report request verdict)))) }
+        ensures few { IfOk result (λ octets. octets ≤ 8195) }
+        ensures sends { OnOk result ((number : ℕ) → SendsLines B.device B.moment B.sent B.counts board.old board.new
+            (reply number head.moment head.count (verdict_report request verdict) ∷ [])) }
+        ensures breaks { OnErr result ((number : ℕ) → BreaksIn B.device B.moment B.sent B.counts board.old board.new
+            (reply number head.moment head.count (verdict_report request verdict) ∷ [])) }
+    {
+        let length = self.write_verdict(head, verdict, request);
+        send_line(board, REPORTS, &self.report[..length as usize], &mut self.line)
+    }
+}
