@@ -1,14 +1,15 @@
 -- Items of requests: an instruction and its octets, and lists of them.
-use Rattle.std.proofs.Common.{◌≡◌, ℕ, zero, suc, ◌+◌, ◌*◌, ◌/◌, ◌%◌, ◌<◌, ◌≤◌, ◌==◌, Bool, true, false, ◌||◌, List, [], ◌∷◌, ◌++◌, length, drop, get_or, Option, Some, refl, sym, ◌∙◌, ap, arith, length-append, length-drop}
+use Rattle.std.proofs.Common.{◌≡◌, ℕ, zero, suc, ◌+◌, ◌*◌, ◌/◌, ◌%◌, ◌<◌, ◌≤◌, ◌==◌, Bool, true, false, ◌||◌, List, [], ◌∷◌, ◌++◌, length, take, drop, get_or, Option, Some, refl, sym, ◌∙◌, ap, arith, append_assoc, length-append, length-drop}
 use Rattle.std.proofs.lemmas.Bool.{eqb-true}
-use Rattle.std.proofs.lemmas.List.{drop_at, drop-drop, nil_from_length}
+use Rattle.std.proofs.lemmas.List.{append-nil, drop_at, drop_more, drop-drop, nil_from_length, take_more, take-append-drop}
 use Rattle.std.proofs.lemmas.List.Elements.{All-cons, All-drop, All-head, All-nil, All-tail}
-use Rattle.std.specs.Prelude.{All, if◌then◌else◌, slice_index}
+use Rattle.std.proofs.lemmas.Option.{slice_get-get_or}
+use Rattle.std.specs.Prelude.{All, if◌then◌else◌, slice_get, slice_index}
 use Rattle.byteorder.specs.Numbers.{big_number-reads_back}
 use Rattle.octet_fields.specs.Fields.{big_bytes, field}
 use Rattle.control_defs.specs.declared.instructions.Instruction.{Instruction}
 use Rattle.control_defs.specs.declared.instructions.Instruction.TheVariants.{Enable, Disable, Resume, Suspend}
-use Rattle.pst_model.specs.Requests.{HasStore, instruction_in, is_known, item_of, items_from, items_octets, subtype_asked}
+use Rattle.pst_model.specs.Requests.{HasStore, instruction_in, is_known, item_of, items_from, items_in, items_octets, subtype_asked}
 
 -- octets, each below 256
 abbrev pub AreOctets : List ℕ → Type 0
@@ -109,6 +110,12 @@ get_or-items_from subtype (suc count) (suc at) octets d within =
     let places : 2 + 2 * at ≡ 2 * suc at = omega arith in
     get_or-items_from subtype count at (drop 2 octets) d (omega arith) ∙ ap (instruction_in subtype) (drop-drop (2 * at) 2 octets ∙ ap (λ (n : ℕ). drop n octets) places)
 
+pub slice_get-items_in : (subtype at : ℕ) (body : List ℕ) → at < slice_index body 0 → slice_get (items_in subtype body) at ≡ Some (instruction_in subtype (drop (1 + 2 * at) body))
+slice_get-items_in subtype at body within =
+    let item : Instruction = instruction_in subtype (drop (1 + 2 * at) body) in
+    slice_get-get_or (items_in subtype body) at item (omega (arith, length-items_from subtype (slice_index body 0) (drop 1 body)))
+    ∙ ap Some (get_or-items_from subtype (slice_index body 0) at (drop 1 body) item within ∙ ap (instruction_in subtype) (drop-drop (2 * at) 1 body))
+
 pub items_octets-items_from : (subtype count : ℕ) (octets : List ℕ) → AreOctets octets → length octets ≡ 2 * count → items_octets (items_from subtype count octets) ≡ octets
 items_octets-items_from subtype zero octets fit long = sym (nil_from_length octets (omega arith))
 items_octets-items_from subtype (suc count) [] fit long = absurd (omega arith)
@@ -154,3 +161,32 @@ items_from-items_octets subtype (item ∷ items) kind stores =
     items_from-items_octets subtype items (All-tail (λ (item : Instruction). subtype_asked item ≡ Some subtype) item items kind) (All-tail HasStore item items stores) in
     ap (λ (first : Instruction). first ∷ items_from subtype (length items) (drop 2 (item_of item ++ items_octets items))) (instruction_in-item_of subtype item (items_octets items) asked (All-head HasStore item items stores))
     ∙ ap (λ (l : List ℕ). item ∷ items_from subtype (length items) l) behind ∙ ap (λ (l : List Instruction). item ∷ l) others
+
+items_octets-append : (front behind : List Instruction) → items_octets (front ++ behind) ≡ items_octets front ++ items_octets behind
+items_octets-append [] behind = refl
+items_octets-append (item ∷ front) behind =
+    ap (λ (l : List ℕ). item_of item ++ l) (items_octets-append front behind) ∙ sym (append_assoc (item_of item) (items_octets front) (items_octets behind))
+
+-- one more item
+pub items_octets-more : (items : List Instruction) (at : ℕ) (d : Instruction) → at < length items → items_octets (take (at + 1) items) ≡ items_octets (take at items) ++ item_of (get_or items at d)
+items_octets-more items at d within =
+    ap items_octets (take_more items at d within) ∙ items_octets-append (take at items) (get_or items at d ∷ [])
+    ∙ ap (λ (l : List ℕ). items_octets (take at items) ++ l) (append-nil (item_of (get_or items at d)))
+
+-- the items up to one, and those behind
+pub items_octets-split : (items : List Instruction) (at : ℕ) → items_octets items ≡ items_octets (take at items) ++ items_octets (drop at items)
+items_octets-split items at = ap items_octets (sym (take-append-drop at items)) ∙ items_octets-append (take at items) (drop at items)
+
+-- as lengths
+pub length-items_more : (items : List Instruction) (at : ℕ) (d : Instruction) → at < length items
+    → length (item_of (get_or items at d)) + length (items_octets (take at items)) ≡ length (items_octets (take (at + 1) items))
+length-items_more items at d within =
+    let more = ap length (items_octets-more items at d within) in
+    omega (arith, more, length-append (items_octets (take at items)) (item_of (get_or items at d)))
+
+-- an item and those before it are no longer than all
+pub length-items_upto : (items : List Instruction) (at : ℕ) (d : Instruction) → at < length items
+    → length (item_of (get_or items at d)) + length (items_octets (take at items)) ≤ length (items_octets items)
+length-items_upto items at d within =
+    let all = ap length (items_octets-split items (at + 1)) in
+    omega (arith, all, length-items_more items at d within, length-append (items_octets (take (at + 1) items)) (items_octets (drop (at + 1) items)))

@@ -1,5 +1,5 @@
 -- Requests as octets: what stands behind the headers of a telecommand, and the instructions that it spells.
-use Rattle.std.specs.Prelude.{◌≡◌, ◌<◌, ◌≤◌, ℕ, zero, suc, ◌+◌, ◌*◌, ◌-◌, ◌==◌, ◌&&◌, ◌||◌, nat_le, min, Bool, true, false, not, if◌then◌else◌, All, List, [], ◌∷◌, ◌++◌, length, take, drop, slice_index, Option, Some, None}
+use Rattle.std.specs.Prelude.{◌≡◌, ◌<◌, ◌≤◌, ℕ, zero, suc, ◌+◌, ◌*◌, ◌-◌, ◌==◌, ◌&&◌, ◌||◌, nat_le, min, Bool, true, false, not, if◌then◌else◌, All, List, [], ◌∷◌, ◌++◌, length, take, drop, slice_index, Option, Some, None, unwrap_or}
 use Rattle.octet_fields.specs.Fields.{big_bytes, field}
 use Rattle.space_packet.specs.declared.header.Primary.{Primary}
 use Rattle.space_packet.specs.Header.{header_of}
@@ -31,15 +31,10 @@ subtype_asked (Resume store) = Some 15
 subtype_asked (Suspend store) = Some 16
 subtype_asked _ = None
 
--- the subtype that an item asks for, and 0 where it asks for none
-abbrev pub subtype_by : Option ℕ → ℕ
-subtype_by (Some subtype) = subtype
-subtype_by None = 0
-
--- the subtype of the first item, and 0 where there is none
+-- the subtype that the first item asks for, and 0 where there is none
 abbrev pub subtype_of_items : List Instruction → ℕ
 subtype_of_items [] = 0
-subtype_of_items (item ∷ items) = subtype_by (subtype_asked item)
+subtype_of_items (item ∷ items) = unwrap_or (subtype_asked item) 0
 
 -- an instruction of this subtype, whose store has its two octets
 abbrev pub IsStore : ℕ → Type 0

@@ -1,6 +1,6 @@
 // The items of a request, as a view of its data.
 ghost use Rattle.std.specs.Prelude.{◌≡◌, ◌<◌, ◌≤◌, None, Some, true, length, slice_get, slice_index};
-ghost use Rattle.pst_model.specs.Requests.{is_known, items_in, length_asked};
+ghost use Rattle.pst_model.specs.Requests.{SpellsRequest, is_known, items_in, length_asked};
 
 use crate::kinds::{ITEM, item_at};
 use control_defs::Instruction;
@@ -28,7 +28,8 @@ impl<'a> Items<'a> {
         requires some { 1 ≤ slice_index body.now 0 }
         requires few { slice_index body.now 0 ≤ 32 }
         requires whole { length body.now ≡ length_asked body.now }
-        ensures { listed result ≡ items_in subtype body.now }
+        ensures items { listed result ≡ items_in subtype body.now }
+        ensures spelled { SpellsRequest 15 subtype body.now (listed result) }
     {
         Items { subtype, body }
     }

@@ -44,6 +44,16 @@ fn write_headers(count: u16, acks: u8, subtype: u8, source: u16, size: u16, out:
     put_u16(out, 9, source);
 }
 
+/// The message subtype of the request for instructions, which the first one says.
+fn subtype_of(items: &[Instruction]) -> u8
+    ensures { result ≡ subtype_of_items items.now }
+{
+    match items {
+        [] => 0,
+        [item, ..] => subtype_asked(*item).unwrap_or(0),
+    }
+}
+
 /// Writes the items of instructions from `at` on, one behind another, and leaves the rest.
 fn put_items(items: &[Instruction], out: &mut [u8], at: usize)
     requires { at + length (items_octets items.now) ≤ length out.old }
@@ -69,7 +79,7 @@ pub fn write_request(count: u16, acks: u8, source: u16, items: &[Instruction], o
     ensures packet { let packet = request_packet count acks (subtype_of_items items.now) source items.now in
         out.new ≡ packet ++ drop (length packet) out.old }
 {
-    let subtype = subtype_asked(items[0]).unwrap_or(0);
+    let subtype = subtype_of(items);
     let size = 1 + ITEM * items.len();
     write_headers(count, acks, subtype, source, size as u16, out);
     put_u8(out, HEADERS, items.len() as u8);
