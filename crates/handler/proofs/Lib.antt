@@ -1,1 +1,4 @@
+pub mod Arrivals
+pub mod Contents
+pub mod Grants
 pub mod Sendings

@@ -1,2 +1,6 @@
 pub mod Counting
+pub mod Handler
+pub mod Kept
+pub mod Refusals
 pub mod Sending
+pub mod Table

@@ -1,14 +1,23 @@
-//! One command at a time: what a packet, a request or a grant does to the table, and the lines that go out.
+//! One command at a time: what an arriving packet, a request or a grant does to the table of packet stores
+//! (ECSS-E-ST-70-41C, 6.14 and 6.15), which is kept in memory, and the lines that go out.
 #![tactic(auto)]
 
 mod buffers;
+mod deciding;
+mod fault;
+mod handler;
 mod judging;
+mod packets;
+mod refusal;
+mod replies;
 mod sending;
 mod sent;
+mod table;
 mod verdicts;
 
-pub use buffers::Buffers;
-pub use judging::{Request, identifier_of, judge};
-pub use sending::send_line;
+pub use fault::HandlerFault;
+pub use handler::Handler;
 pub use sent::Sent;
-pub use verdicts::{Failures, Verdicts, verdicts_on};
+
+#[cfg(test)]
+mod tests;

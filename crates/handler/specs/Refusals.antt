@@ -1,0 +1,20 @@
+-- Why instructions fail.
+use Rattle.std.specs.Prelude.{ℕ, ◌==◌, Bool, true, false, not, if◌then◌else◌, Result, Ok, Err}
+use Rattle.handler.specs.declared.refusal.Refusal.{Refusal}
+use Rattle.handler.specs.declared.refusal.Refusal.TheVariants.{UnknownStore, AlreadySo}
+use Rattle.pst_model.specs.Instructions.{already_so, unknown_store}
+
+abbrev pub code_of : Refusal → ℕ
+code_of UnknownStore = unknown_store
+code_of AlreadySo = already_so
+
+-- whether a flag is as it is wanted
+abbrev pub is_wanted : (wanted flag : Bool) → Bool
+is_wanted true flag = flag
+is_wanted false flag = not flag
+
+-- A flag of the boot store as it was set, where the store of this identifier is that one and its flag is
+-- not so already.
+abbrev pub set_flag : (store : ℕ) → (wanted flag : Bool) → Result Bool Refusal
+set_flag store wanted flag =
+    if 1 == store then (if is_wanted wanted flag then Err AlreadySo else Ok wanted) else Err UnknownStore

@@ -1,0 +1,151 @@
+// The handler of commands.
+ghost use Rattle.std.specs.Prelude.{◌≡◌, ◌<◌, ◌^◌, ℕ, Err, true, false, is_ok, IsTrue, IfOk, OnOk, OnErr};
+ghost use Rattle.pst_model.specs.Rules.{grant};
+ghost use Rattle.handler.specs.Counting.{IsCountOf};
+ghost use Rattle.handler.specs.Sending.{BreaksIn, SendsLines};
+ghost use Rattle.handler.specs.Table.{table_of};
+
+use crate::buffers::Buffers;
+use crate::deciding::decide;
+use crate::fault::HandlerFault;
+use crate::judging::identifier_of;
+use crate::replies::send_verdicts;
+use crate::sent::Sent;
+use crate::table::{CHANNEL, MemTable};
+use board::{Board, Failed};
+use space_packet::PacketView;
+use std::alloc::{AllocError, Global};
+
+/// The table in memory with what it takes to carry out commands on it. It is open until the link fails.
+#[derive(Drop)]
+pub struct Handler {
+    table: MemTable,
+    buffers: Buffers,
+    open: bool,
+}
+
+// Sends the packet that the next grant sends, where there is one, and goes past it.
+fn send_next<B: Board>(
+    board: &mut B,
+    table: &mut MemTable,
+    buffers: &mut Buffers,
+) -> Result<Sent, Failed>
+    ensures table { OnOk result ((number : ℕ) → table_of table.new ≡ (grant number (table_of table.old)).table) }
+    ensures sends { OnOk result ((number : ℕ) → SendsLines B.device B.moment B.sent B.counts board.old board.new (grant number (table_of table.old)).outputs) }
+    ensures counted { IfOk result (λ sent. (number : ℕ) → IsCountOf (grant number (table_of table.old)).outputs sent) }
+    ensures breaks { OnErr result ((number : ℕ) → BreaksIn B.device B.moment B.sent B.counts board.old board.new (grant number (table_of table.old)).outputs) }
+{
+    let Some(packet) = table.next() else {
+        return Ok(Sent::default());
+    };
+    let octets = buffers.send(board, CHANNEL, packet)?;
+    table.pass();
+    Ok(Sent {
+        retrieved: 1,
+        octets: u64::from(octets),
+        ..Sent::default()
+    })
+}
+
+impl Handler {
+    ghost use Rattle.space_packet.specs.View.{octets_of};
+    ghost use Rattle.pst_model.specs.Answers.{answer};
+    ghost use Rattle.pst_model.specs.Rules.{arrive};
+    ghost use Rattle.pst_model.specs.Table.{after_format};
+    ghost use Rattle.handler.specs.Handler.{is_open, table_in};
+
+    /// A handler of the table after a format, which is open.
+    pub fn new(alloc: Global) -> Result<Handler, AllocError>
+        ensures table { IfOk result (λ handler. table_in handler ≡ after_format) }
+        ensures open { IfOk result (λ handler. is_open handler ≡ true) }
+    {
+        Ok(Handler {
+            table: MemTable::new(alloc)?,
+            buffers: Buffers::new(alloc)?,
+            open: true,
+        })
+    }
+
+    /// Whether the link has not failed in a call.
+    pub fn is_open(&self) -> bool
+        ensures { result ≡ is_open self.now }
+    {
+        self.open
+    }
+
+    /// Carries out the arrival of a packet at a moment below 2^48, of which no line goes out: the table
+    /// has no forward pattern. `NoMemory`: nothing of it was done. The board is not used.
+    pub fn arrival<B: Board>(
+        &mut self,
+        alloc: Global,
+        board: &mut B,
+        moment: u64,
+        packet: PacketView<'_>,
+    ) -> Result<Sent, HandlerFault>
+        requires open { IsTrue (is_open self.old) }
+        requires moment { moment < 2 ^ 48 }
+        ensures table { OnOk result ((number : ℕ) → table_in self.new ≡ (arrive number moment (octets_of packet.entry) (table_in self.old)).table) }
+        ensures sends { OnOk result ((number : ℕ) → SendsLines B.device B.moment B.sent B.counts board.old board.new (arrive number moment (octets_of packet.entry) (table_in self.old)).outputs) }
+        ensures counted { IfOk result (λ sent. (number : ℕ) → IsCountOf (arrive number moment (octets_of packet.entry) (table_in self.old)).outputs sent) }
+        ensures fault { OnErr result ((result ≡ Err HandlerFault.NoMemory) × (board.new ≡ board.old) × (table_in self.new ≡ table_in self.old)) }
+        ensures open { is_open self.new ≡ true }
+    {
+        match self.table.arrival(alloc, moment, packet) {
+            Ok(()) => Ok(Sent::default()),
+            Err(_) => Err(HandlerFault::NoMemory),
+        }
+    }
+
+    /// Carries out a request, in any packet, at a moment below 2^48, and sends the reports that answer it.
+    /// `Link`: the link failed, and the handler is closed.
+    pub fn request<B: Board>(
+        &mut self,
+        alloc: Global,
+        board: &mut B,
+        moment: u64,
+        packet: PacketView<'_>,
+    ) -> Result<Sent, HandlerFault>
+        requires open { IsTrue (is_open self.old) }
+        requires moment { moment < 2 ^ 48 }
+        ensures table { OnOk result ((number : ℕ) → table_in self.new ≡ (answer number moment (octets_of packet.entry) (table_in self.old)).table) }
+        ensures sends { OnOk result ((number : ℕ) → SendsLines B.device B.moment B.sent B.counts board.old board.new (answer number moment (octets_of packet.entry) (table_in self.old)).outputs) }
+        ensures counted { IfOk result (λ sent. (number : ℕ) → IsCountOf (answer number moment (octets_of packet.entry) (table_in self.old)).outputs sent) }
+        ensures fault { OnErr result (result ≡ Err HandlerFault.Link) }
+        ensures breaks { OnErr result ((number : ℕ) → BreaksIn B.device B.moment B.sent B.counts board.old board.new (answer number moment (octets_of packet.entry) (table_in self.old)).outputs) }
+        ensures open { is_open self.new ≡ is_ok result }
+    {
+        let verdicts = decide(&mut self.table, packet);
+        let identifier = identifier_of(packet);
+        match send_verdicts(board, &mut self.table, &mut self.buffers, moment, identifier, verdicts.as_slice()) {
+            Ok(sent) => Ok(sent),
+            Err(_) => Err(self.close()),
+        }
+    }
+
+    /// Carries out a grant at a moment below 2^48, and sends the packet that it retrieves, where there is
+    /// one. `Link`: the link failed, and the handler is closed.
+    pub fn grant<B: Board>(&mut self, board: &mut B, moment: u64) -> Result<Sent, HandlerFault>
+        requires open { IsTrue (is_open self.old) }
+        requires moment { moment < 2 ^ 48 }
+        ensures table { OnOk result ((number : ℕ) → table_in self.new ≡ (grant number (table_in self.old)).table) }
+        ensures sends { OnOk result ((number : ℕ) → SendsLines B.device B.moment B.sent B.counts board.old board.new (grant number (table_in self.old)).outputs) }
+        ensures counted { IfOk result (λ sent. (number : ℕ) → IsCountOf (grant number (table_in self.old)).outputs sent) }
+        ensures fault { OnErr result (result ≡ Err HandlerFault.Link) }
+        ensures breaks { OnErr result ((number : ℕ) → BreaksIn B.device B.moment B.sent B.counts board.old board.new (grant number (table_in self.old)).outputs) }
+        ensures open { is_open self.new ≡ is_ok result }
+    {
+        match send_next(board, &mut self.table, &mut self.buffers) {
+            Ok(sent) => Ok(sent),
+            Err(_) => Err(self.close()),
+        }
+    }
+
+    // Closes the handler, since the link failed.
+    fn close(&mut self) -> HandlerFault
+        ensures fault { result ≡ HandlerFault.Link }
+        ensures closed { is_open self.new ≡ false }
+    {
+        self.open = false;
+        HandlerFault::Link
+    }
+}

@@ -1,0 +1,87 @@
+// A full store, and instructions that take effect and that fail.
+
+use super::*;
+use control_defs::Instruction;
+use space_packet::PacketView;
+use std::alloc::{AllocError, Global};
+use std::test::Fail;
+
+/// The identifier of the boot store.
+const BOOT: u16 = 1;
+
+// A telemetry packet of APID 100, of 7 octets, with this last one.
+fn short(last: u8) -> [u8; 7] {
+    [0x08, 0x64, 0xc0, 0, 0, 0, last]
+}
+
+// Offers such a packet to the table.
+fn offer(alloc: Global, table: &mut MemTable, moment: u64, last: u8) -> Result<bool, AllocError> {
+    let octets = short(last);
+    let Ok(packet) = PacketView::read(&octets) else {
+        return Ok(false);
+    };
+    table.arrival(alloc, moment, packet)?;
+    Ok(true)
+}
+
+#[test]
+fn the_oldest_packet_leaves_a_full_store(rt: HostRuntime) -> Result<(), Fail> {
+    let alloc = rt.alloc();
+    let mut table = MemTable::new(alloc)?;
+    for last in 0u8..65 {
+        assert!(rt; offer(alloc, &mut table, u64::from(last), last)?);
+    }
+    for last in 1u8..65 {
+        assert!(rt; table.next() == Some(short(last).as_slice()));
+        if table.next().is_some() {
+            table.pass();
+        }
+    }
+    assert!(rt; table.next().is_none());
+    Ok(())
+}
+
+#[test]
+fn what_is_off_does_nothing(rt: HostRuntime) -> Result<(), Fail> {
+    let alloc = rt.alloc();
+    let mut table = MemTable::new(alloc)?;
+    assert!(rt; table.carry_out(Instruction::Disable(BOOT)).is_ok());
+    assert!(rt; offer(alloc, &mut table, 1, 1)?);
+    assert!(rt; table.next().is_none());
+    assert!(rt; table.carry_out(Instruction::Enable(BOOT)).is_ok());
+    assert!(rt; offer(alloc, &mut table, 2, 2)?);
+    assert!(rt; table.carry_out(Instruction::Suspend(BOOT)).is_ok());
+    assert!(rt; table.next().is_none());
+    assert!(rt; table.carry_out(Instruction::Resume(BOOT)).is_ok());
+    assert!(rt; table.next() == Some(short(2).as_slice()));
+    Ok(())
+}
+
+#[test]
+fn instructions_fail(rt: HostRuntime) -> Result<(), Fail> {
+    let mut table = MemTable::new(rt.alloc())?;
+    let so = Err(Refusal::AlreadySo);
+    assert!(rt; table.carry_out(Instruction::Enable(BOOT)) == so);
+    assert!(rt; table.carry_out(Instruction::Resume(BOOT)) == so);
+    assert!(rt; table.carry_out(Instruction::Disable(BOOT)).is_ok());
+    assert!(rt; table.carry_out(Instruction::Disable(BOOT)) == so);
+    assert!(rt; table.carry_out(Instruction::Suspend(BOOT)).is_ok());
+    assert!(rt; table.carry_out(Instruction::Suspend(BOOT)) == so);
+    assert!(rt; table.carry_out(Instruction::Enable(2)) == Err(Refusal::UnknownStore));
+    assert_eq!(rt; Refusal::UnknownStore.code(), 6);
+    assert_eq!(rt; Refusal::AlreadySo.code(), 22);
+    Ok(())
+}
+
+#[test]
+fn reports_are_counted(rt: HostRuntime) -> Result<(), Fail> {
+    let mut table = MemTable::new(rt.alloc())?;
+    assert_eq!(rt; table.count(), 0);
+    for _ in 0u16..16383 {
+        table.report();
+    }
+    assert_eq!(rt; table.count(), 16383);
+    table.report();
+    assert_eq!(rt; table.count(), 0);
+    Ok(())
+}
