@@ -1,4 +1,7 @@
+pub mod Answered
 pub mod Arrivals
+pub mod Carrying
 pub mod Contents
 pub mod Grants
+pub mod Replying
 pub mod Sendings

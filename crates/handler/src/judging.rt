@@ -22,6 +22,7 @@ const UNKNOWN_SUBTYPE: u8 = 4;
 const MALFORMED: u8 = 5;
 
 /// A request that no judgement refuses.
+#[derive(Clone, Copy)]
 pub struct Request<'a> {
     /// Its acknowledgement flags.
     pub acks: u8,

@@ -1,6 +1,6 @@
 // The items of a request, as a view of its data.
-ghost use Rattle.std.specs.Prelude.{◌≡◌, ◌<◌, ◌≤◌, None, Some, true, length, slice_get, slice_index};
-ghost use Rattle.pst_model.specs.Requests.{SpellsRequest, is_known, items_in, length_asked};
+ghost use Rattle.std.specs.Prelude.{◌≡◌, ◌<◌, ◌≤◌, None, Some, IsSome, true, length, slice_get, slice_index};
+ghost use Rattle.pst_model.specs.Requests.{SpellsRequest, is_known, items_in, length_asked, subtype_asked};
 
 use crate::kinds::{ITEM, item_at};
 use control_defs::Instruction;
@@ -46,7 +46,8 @@ impl<'a> Items<'a> {
     /// The instruction at this place. Places are counted from 0.
     pub fn get(&self, at: u32) -> Instruction
         requires { at < length (listed self.now) }
-        ensures { slice_get (listed self.now) at ≡ Some result }
+        ensures item { slice_get (listed self.now) at ≡ Some result }
+        ensures known { IsSome (subtype_asked result) }
     {
         item_at(self.subtype, self.body, COUNT + ITEM * at as usize)
     }

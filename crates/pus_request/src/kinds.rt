@@ -1,6 +1,6 @@
 // The kinds of request of service 15, each with its message subtype and its items
 // (ECSS-E-ST-70-41C, 8.15.2).
-ghost use Rattle.std.specs.Prelude.{◌≡◌, ◌+◌, ◌≤◌, length, drop};
+ghost use Rattle.std.specs.Prelude.{◌≡◌, ◌+◌, ◌≤◌, length, drop, IsSome};
 ghost use Rattle.octet_fields.specs.Fields.{Writes};
 ghost use Rattle.pst_model.specs.Requests.{instruction_in, is_known, item_of, subtype_asked};
 
@@ -41,7 +41,8 @@ pub(crate) fn subtype_asked(item: Instruction) -> Option<u8>
 /// The instruction that the item at `at` spells in the data of a request of this known subtype.
 pub(crate) fn item_at(subtype: u8, body: &[u8], at: usize) -> Instruction
     requires { at + 2 ≤ length body.now }
-    ensures { result ≡ instruction_in subtype (drop at body.now) }
+    ensures item { result ≡ instruction_in subtype (drop at body.now) }
+    ensures known { IsSome (subtype_asked result) }
 {
     let store = u16_at(body, at);
     match subtype {

@@ -7,8 +7,8 @@ item_at-requires c =
     let items = c.args.self.now in
     omega (arith, items.whole, length-items_from items.subtype (slice_index items.body.now 0) (drop 1 items.body.now))
 
-pub returns : goal.returns
-returns c =
+pub returns-clause-item : goal.returns-clause-item
+returns-clause-item c =
     let items = c.args.self.now in
     let within : c.args.at < slice_index items.body.now 0 = omega (arith, length-items_from items.subtype (slice_index items.body.now 0) (drop 1 items.body.now)) in
-    slice_get-items_in items.subtype c.args.at items.body.now within ∙ ap Some (sym c.item_at.ensures)
+    slice_get-items_in items.subtype c.args.at items.body.now within ∙ ap Some (sym c.item_at.ensures.item)

@@ -1,0 +1,68 @@
+use Rattle.std.proofs.Common.{◌≡◌, ℕ, ◌+◌, List, [], ◌∷◌, ◌++◌, length, map, take, drop, get_or, sym, ◌∙◌, ap, subst, arith}
+use Rattle.std.proofs.lemmas.List.{take_all}
+use Rattle.session_text.proofs.Buffers.{on_err}
+use Rattle.pst_model.specs.declared.verdicts.Verdict.{Verdict}
+use Rattle.pst_model.specs.declared.verdicts.Verdict.TheVariants.{Accepted}
+use Rattle.pst_model.specs.Answers.{replies_from, reply}
+use Rattle.pst_model.specs.Output.{output_line}
+use Rattle.pst_model.specs.Reports.{count_behind, report_packet, verdict_report}
+use Rattle.pst_model.specs.Rules.{Output}
+use Rattle.pst_model.specs.Table.{Table}
+use Rattle.pst_model.proofs.Counted.{count_behind-more}
+use Rattle.handler.specs.Counting.{IsCountOf}
+use Rattle.handler.specs.Sending.{BreaksIn, SendsLines}
+use Rattle.handler.specs.Table.{table_of}
+use Rattle.handler.proofs.Replying.{counted_more, replies-more, replies-split}
+use Rattle.handler.proofs.Sendings.{breaks_early, breaks_on, lines_on}
+use Rattle.handler.proofs.replies.send_verdicts.Goals as goal
+
+pub returns-in_err-octets-clause-breaks : goal.returns-in_err-octets-clause-breaks
+returns-in_err-octets-clause-breaks g c =
+    let board = g.B.Board in
+    let so_far = c.loop-verdict.invariant in
+    let at = c.loop-verdict.verdict-index in
+    let first = c.args.table.now.reports in
+    let verdicts = c.args.verdicts.now in
+    let count : c.count.result ≡ count_behind first at = c.count.ensures.reports ∙ ap (λ (t : Table). t.reports) so_far.table in
+    on_err c.from_residual.result
+    (λ (number : ℕ).
+    subst (λ (outputs : List Output). BreaksIn board.device board.moment board.sent board.counts c.args.board.now c.send_verdict.new.board outputs)
+    (ap (λ (outputs : List Output). outputs ++ replies_from number c.args.moment (count_behind first (at + 1)) (map (verdict_report c.args.request) (drop (at + 1) verdicts)))
+    (sym (replies-more number c.args.moment first c.args.request verdicts at c.args.table.now.counted (omega arith)))
+    ∙ sym (replies-split number c.args.moment first c.args.request verdicts (at + 1) c.args.table.now.counted (omega arith)))
+    (breaks_early board.device board.moment board.sent board.counts c.args.board.now c.send_verdict.new.board _ (replies_from number c.args.moment (count_behind first (at + 1)) (map (verdict_report c.args.request) (drop (at + 1) verdicts)))
+    (breaks_on board.device board.moment board.sent board.counts c.args.board.now c.loop-verdict.board c.send_verdict.new.board _ (reply number c.args.moment (count_behind first at) (verdict_report c.args.request (get_or verdicts at Accepted)) ∷ [])
+    (so_far.sends number)
+    (subst (λ (n : ℕ). BreaksIn board.device board.moment board.sent board.counts c.loop-verdict.board c.send_verdict.new.board (reply number c.args.moment n (verdict_report c.args.request (get_or verdicts at Accepted)) ∷ [])) count (c.in_err-octets.ensures.breaks number)))))
+
+pub loop-verdict-preserved : goal.loop-verdict-preserved
+loop-verdict-preserved g c =
+    let board = g.B.Board in
+    let so_far = c.loop-verdict.invariant in
+    let at = c.loop-verdict.verdict-index in
+    let first = c.args.table.now.reports in
+    let verdicts = c.args.verdicts.now in
+    let count : c.count.result ≡ count_behind first at = c.count.ensures.reports ∙ ap (λ (t : Table). t.reports) so_far.table in
+    let more = λ (number : ℕ). replies-more number c.args.moment first c.args.request verdicts at c.args.table.now.counted (omega arith) in
+    record {
+      table = c.report.ensures ∙ ap (λ (t : Table). record t { reports = count_behind t.reports 1 }) so_far.table
+          ∙ ap (λ (n : ℕ). record (table_of c.args.table.now) { reports = n }) (count_behind-more first at 1);
+      sends = λ number.
+          subst (λ (outputs : List Output). SendsLines board.device board.moment board.sent board.counts c.args.board.now c.send_verdict.new.board outputs) (sym (more number))
+          (lines_on board.device board.moment board.sent board.counts c.args.board.now c.loop-verdict.board c.send_verdict.new.board _ (reply number c.args.moment (count_behind first at) (verdict_report c.args.request (get_or verdicts at Accepted)) ∷ [])
+          (so_far.sends number)
+          (subst (λ (n : ℕ). SendsLines board.device board.moment board.sent board.counts c.loop-verdict.board c.send_verdict.new.board (reply number c.args.moment n (verdict_report c.args.request (get_or verdicts at Accepted)) ∷ [])) count (c.in_ok-octets.ensures.sends number)));
+      counted = λ number.
+          subst (λ (outputs : List Output). IsCountOf outputs (record c.loop-verdict.sent { replies = c.loop-verdict.sent.replies + 1; octets = c.loop-verdict.sent.octets + c.from.result })) (sym (more number))
+          (counted_more _ c.loop-verdict.sent number c.args.moment (count_behind first at) (verdict_report c.args.request (get_or verdicts at Accepted)) c.from.result (so_far.counted number)
+          (c.from.ensures ∙ c.in_ok-octets.ensures.octets
+          ∙ ap (λ (n : ℕ). length (output_line 0 (report_packet n c.args.moment (verdict_report c.args.request (get_or verdicts at Accepted))))) count));
+      replies = omega (arith, so_far.replies);
+      octets = omega (arith, so_far.octets, c.in_ok-octets.ensures.few, c.from.ensures);
+    }
+
+pub returns-clause-sends : goal.returns-clause-sends
+returns-clause-sends g c number =
+    let board = g.B.Board in
+    subst (λ (l : List Verdict). SendsLines board.device board.moment board.sent board.counts c.args.board.now c.loop-verdict.board (replies_from number c.args.moment c.args.table.now.reports (map (verdict_report c.args.request) l)))
+    (take_all c.loop-verdict.verdict-index c.args.verdicts.now (omega arith)) (c.loop-verdict.invariant.sends number)
