@@ -89,9 +89,11 @@ impl MemTable {
         moment: u64,
         packet: PacketView<'_>,
     ) -> Result<(), AllocError>
-        ensures table { OnOk result ((number : ℕ) → table_of self.new ≡ (arrive number moment (octets_of packet.entry) (table_of self.old)).table) }
+        ensures table { OnOk result ((number : ℕ)
+            → table_of self.new ≡ (arrive number moment (octets_of packet.entry) (table_of self.old)).table) }
         ensures kept { OnErr result (table_of self.new ≡ table_of self.old) }
-        ensures nothing { (number : ℕ) → (arrive number moment (octets_of packet.entry) (table_of self.old)).outputs ≡ [] }
+        ensures nothing { (number : ℕ)
+            → (arrive number moment (octets_of packet.entry) (table_of self.old)).outputs ≡ [] }
     {
         let now = self.clock.max(moment);
         if self.storage && !packet.is_idle() {
@@ -106,8 +108,10 @@ impl MemTable {
     pub fn next(&self) -> Option<&[u8]>
         ensures next { MatchOption result
             ((number : ℕ) → (grant number (table_of self.now)).outputs ≡ [])
-            (λ packet. (number : ℕ) → (grant number (table_of self.now)).outputs ≡ record { command = number; kind = Retrieved; channel = 1; packet = packet.now } ∷ []) }
-        ensures none { IfNone result ((number : ℕ) → (grant number (table_of self.now)).table ≡ table_of self.now) }
+            (λ packet. (number : ℕ) → (grant number (table_of self.now)).outputs
+            ≡ record { command = number; kind = Retrieved; channel = 1; packet = packet.now } ∷ []) }
+        ensures none { IfNone result ((number : ℕ)
+            → (grant number (table_of self.now)).table ≡ table_of self.now) }
         ensures short { IfSome result (λ packet. length packet.now ≤ 4096) }
         ensures ahead { IfSome result (λ packet. HasNext self.now) }
     {
@@ -132,7 +136,8 @@ impl MemTable {
         requires { IsSome (subtype_asked instruction) }
         ensures { MatchResult result
             (λ _. instruct instruction (table_of self.old) ≡ Ok (table_of self.new))
-            (λ refusal. (instruct instruction (table_of self.old) ≡ Err (code_of refusal)) × (table_of self.new ≡ table_of self.old)) }
+            (λ refusal. (instruct instruction (table_of self.old) ≡ Err (code_of refusal))
+            × (table_of self.new ≡ table_of self.old)) }
     {
         match instruction {
             Instruction::Enable(store) => set_flag(store, true, &mut self.storage),
@@ -153,7 +158,8 @@ impl MemTable {
 
     /// Counts a report that was made.
     pub fn report(&mut self)
-        ensures { table_of self.new ≡ record (table_of self.old) { reports = count_behind (table_of self.old).reports 1 } }
+        ensures { table_of self.new
+            ≡ record (table_of self.old) { reports = count_behind (table_of self.old).reports 1 } }
     {
         self.reports = (self.reports + 1) % COUNTS;
     }

@@ -5,7 +5,8 @@ use Rattle.octet_fields.specs.Fields.{Writes}
 use Rattle.pus_header.specs.Reports.{report_head}
 use Rattle.pst_model.specs.Reports.{Report, report_packet}
 
-pub written-packet : (old new : List ℕ) (count moment subtype size : ℕ) (report : Report) → subtype ≡ report.subtype → size ≡ length report.content
+pub written-packet : (old new : List ℕ) (count moment subtype size : ℕ) (report : Report)
+    → subtype ≡ report.subtype → size ≡ length report.content
     → Writes old new 0 (report_head count report.service subtype moment size ++ report.content)
     → new ≡ report_packet count moment report ++ drop (length (report_packet count moment report)) old
 written-packet old new count moment subtype size report kind total written =

@@ -14,25 +14,38 @@ use Rattle.handler.proofs.table.MemTable.arrival.Goals.{then-self+then-not-is_id
 -- the packet stands last, at the greater of the two moments
 moved : (now moment : ℕ) (packet : List ℕ) (table : MemTable) → now ≡ max table.clock moment
     → let gone = leaving table.packets.items (charge_of (length packet)) in
-    table_with now table.reports (store_of table.storage table.open_on (packets_of (drop gone table.packets.items) ++ record { time = now; octets = packet } ∷ []) (table.behind - gone))
-    ≡ table_with (max table.clock moment) table.reports (store_of table.storage table.open_on (drop gone (packets_of table.packets.items) ++ record { time = max table.clock moment; octets = packet } ∷ []) (table.behind - gone))
+    let with = λ (n : ℕ) (packets : List Stored). table_with n table.reports
+    (store_of table.storage table.open_on (packets ++ record { time = n; octets = packet } ∷ []) (table.behind - gone)) in
+    with now (packets_of (drop gone table.packets.items)) ≡ with (max table.clock moment) (drop gone (packets_of table.packets.items))
 moved now moment packet table is =
     let gone = leaving table.packets.items (charge_of (length packet)) in
-    let with = λ (n : ℕ) (packets : List Stored). table_with n table.reports (store_of table.storage table.open_on (packets ++ record { time = n; octets = packet } ∷ []) (table.behind - gone)) in
+    let with = λ (n : ℕ) (packets : List Stored). table_with n table.reports
+    (store_of table.storage table.open_on (packets ++ record { time = n; octets = packet } ∷ []) (table.behind - gone)) in
     ap (with now) (sym (drop-map stored_of gone table.packets.items))
     ∙ ap (λ (n : ℕ). with n (drop gone (packets_of table.packets.items))) is
 
 pub returns-clause-table : goal.returns-clause-table
 returns-clause-table c number =
     let packet = octets_of c.args.packet in
+    let moment = c.args.moment in
     let old = c.args.self.now in
     let short : length packet ≤ 4096 = c.args.packet.whole.at_most in
     let later = λ (table : Table). record table { now = c.max-now.result } in
     let stored = packets_of old.packets.items in
     elim c.if-self.branch [
-      | then-self+then-not-is_idle+in_ok-put w ↦ ap (λ (table : MemTable). later (table_of table)) w.self-is ∙ ap later w.in_ok-put.ensures.ok ∙ moved c.max-now.result c.args.moment packet old c.max-now.ensures ∙ sym (arrived old.storage old.open_on stored old.behind w.if-self.true number c.args.moment old.clock old.reports packet (sym w.is_idle.ensures ∙ w.if-not-is_idle.true) (omega arith))
-      | else-self w ↦ ap (λ (table : MemTable). later (table_of table)) w.self-is ∙ ap (λ n. record (table_of old) { now = n }) c.max-now.ensures ∙ elim w.else-self.branch [
-        | else-self-via-then-self+else-not-is_idle w' ↦ sym (idle number c.args.moment packet (table_of old) (sym w'.is_idle.ensures ∙ w'.if-not-is_idle.false))
-        | else-self-via-else-self w' ↦ sym (off old.storage old.open_on stored old.behind w'.if-self.false number c.args.moment old.clock old.reports packet)
-      ]
+      | then-self+then-not-is_idle+in_ok-put w ↦
+          ap (λ (table : MemTable). later (table_of table)) w.self-is ∙ ap later w.in_ok-put.ensures.ok
+          ∙ moved c.max-now.result moment packet old c.max-now.ensures
+          ∙ sym
+          (arrived old.storage old.open_on stored old.behind w.if-self.true number moment old.clock old.reports packet
+          (sym w.is_idle.ensures ∙ w.if-not-is_idle.true) (omega arith))
+      | else-self w ↦
+          ap (λ (table : MemTable). later (table_of table)) w.self-is
+          ∙ ap (λ n. record (table_of old) { now = n }) c.max-now.ensures
+          ∙ elim w.else-self.branch [
+            | else-self-via-then-self+else-not-is_idle w' ↦
+                sym (idle number moment packet (table_of old) (sym w'.is_idle.ensures ∙ w'.if-not-is_idle.false))
+            | else-self-via-else-self w' ↦
+                sym (off old.storage old.open_on stored old.behind w'.if-self.false number moment old.clock old.reports packet)
+          ]
     ]

@@ -8,4 +8,6 @@ pub returns : goal.returns
 returns c number =
     let table = c.args.self.now in
     let next = c.requires in
-    sym (granted number table.clock table.reports table.storage table.open_on (packets_of table.packets.items) table.behind next.on (omega (arith, next.ahead, length-map table.packets.items stored_of)))
+    sym
+    (granted number table.clock table.reports table.storage table.open_on (packets_of table.packets.items) table.behind next.on
+    (omega (arith, next.ahead, length-map table.packets.items stored_of)))
