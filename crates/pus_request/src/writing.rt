@@ -21,7 +21,8 @@ const PUS_VERSION: u8 = 2;
 /// The octets of both headers.
 const HEADERS: usize = 11;
 
-/// Writes the two headers of a request with `size` octets of data.
+/// Writes the two headers of a request with `size` octets of data, at most 513, into the first 11 octets of
+/// `out`, and leaves the rest.
 fn write_headers(count: u16, acks: u8, subtype: u8, source: u16, size: u16, out: &mut [u8])
     requires count_fits { count < 16384 }
     requires acks_fit { acks < 16 }
