@@ -1,9 +1,9 @@
 -- Requests on worked octets, by computation.
-use Rattle.std.proofs.Common.{◌≡◌, List, ℕ, [], ◌∷◌, ◌++◌, refl, Some, None}
+use Rattle.std.proofs.Common.{◌≡◌, [], ◌∷◌, ◌++◌, refl, Some, None}
 use Rattle.std.specs.Prelude.{replicate}
 use Rattle.control_defs.specs.declared.instructions.Instruction.TheVariants.{Enable, Disable, Resume, Suspend}
 use Rattle.pst_model.specs.declared.faults.RequestFault.TheVariants.{UnknownService, UnknownSubtype, Malformed}
-use Rattle.pst_model.specs.Requests.{data_of, items_in, request_fault_of, request_packet, subtype_of_items}
+use Rattle.pst_model.specs.Requests.{items_in, request_fault_of, request_packet, subtype_of_items}
 
 -- the count: one item, two, the most, and none, too many or no count at all
 one : request_fault_of 15 1 (1 ∷ 0x01 ∷ 0x02 ∷ []) ≡ None

@@ -1,5 +1,5 @@
 -- Requests as octets: what stands behind the headers of a telecommand, and the instructions that it spells.
-use Rattle.std.specs.Prelude.{◌≡◌, ◌<◌, ◌≤◌, ℕ, zero, suc, ◌+◌, ◌*◌, ◌-◌, ◌==◌, ◌&&◌, ◌||◌, nat_le, min, Bool, true, false, not, if◌then◌else◌, All, List, [], ◌∷◌, ◌++◌, length, take, drop, slice_index, Option, Some, None, unwrap_or}
+use Rattle.std.specs.Prelude.{◌≡◌, ◌<◌, ◌≤◌, ℕ, zero, suc, ◌+◌, ◌*◌, ◌-◌, ◌==◌, ◌&&◌, ◌||◌, nat_le, min, Bool, true, not, if◌then◌else◌, All, List, [], ◌∷◌, ◌++◌, length, drop, slice_index, Option, Some, None, unwrap_or}
 use Rattle.octet_fields.specs.Fields.{big_bytes, field}
 use Rattle.space_packet.specs.declared.header.Primary.{Primary}
 use Rattle.space_packet.specs.Header.{header_of}

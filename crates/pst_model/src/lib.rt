@@ -10,10 +10,12 @@ mod text;
 mod verdicts;
 
 pub use faults::{LineFault, RequestFault};
-pub use requests::{no_spelling_begins_another, one_reading, request_or_fault, written_requests_read_back};
+pub use requests::{
+    no_spelling_begins_another, one_reading, request_or_fault, written_requests_read_back,
+};
 pub use table::{
-    behind_stays_within, circular_stores_refuse_only_larger, failed_instructions_change_nothing, fewest_leave,
-    reports_are_counted, runs_in_turn,
+    behind_stays_within, circular_stores_refuse_only_larger, failed_instructions_change_nothing,
+    fewest_leave, reports_are_counted, runs_in_turn,
 };
 pub use text::{lines_of_text, written_forms};
 pub use verdicts::Verdict;

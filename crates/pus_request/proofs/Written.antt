@@ -1,5 +1,5 @@
 -- What the writes of a request leave.
-use Rattle.std.proofs.Common.{◌≡◌, ℕ, ◌+◌, ◌<◌, ◌≤◌, List, [], ◌∷◌, ◌++◌, length, take, drop, get_or, refl, sym, ap, ◌∙◌, subst, arith, length-append}
+use Rattle.std.proofs.Common.{◌≡◌, ℕ, ◌+◌, ◌<◌, ◌≤◌, List, [], ◌∷◌, ◌++◌, length, take, drop, get_or, refl, sym, ap, ◌∙◌, subst, arith}
 use Rattle.octet_fields.specs.Fields.{Writes}
 use Rattle.octet_fields.proofs.Splices.{Writes-then}
 use Rattle.space_packet.specs.Header.{header_of}

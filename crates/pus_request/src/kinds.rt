@@ -11,8 +11,11 @@ use octet_fields::{put_u16, u16_at};
 pub(crate) const SERVICE: u8 = 15;
 
 const ENABLE: u8 = 1;
+
 const DISABLE: u8 = 2;
+
 const RESUME: u8 = 15;
+
 const SUSPEND: u8 = 16;
 
 /// The octets of an item: the identifier of a packet store.

@@ -33,14 +33,14 @@ fn malformed_at(body: &[u8]) -> Option<u16>
 /// The instructions that a telecommand asks for, in their order, or the first fault of its service, its
 /// subtype or its data (ECSS-E-ST-70-41C, 8.15.2).
 pub fn read_request<'a>(tc: &TcView<'a>) -> Result<Items<'a>, RequestFault>
-    ensures request { let o = command_octets tc.now in
-        IsOk result ↔ (request_fault_of (service_of o) (subtype_of o) (data_in o) ≡ None) }
-    ensures items { let o = command_octets tc.now in
-        IfOk result (λ items. listed items ≡ items_in (subtype_of o) (data_in o)) }
-    ensures spelled { let o = command_octets tc.now in
-        IfOk result (λ items. SpellsRequest (service_of o) (subtype_of o) (data_in o) (listed items)) }
-    ensures fault { let o = command_octets tc.now in
-        IfErr result (λ fault. request_fault_of (service_of o) (subtype_of o) (data_in o) ≡ Some fault) }
+    ensures request { let octets = command_octets tc.now in
+        IsOk result ↔ (request_fault_of (service_of octets) (subtype_of octets) (data_in octets) ≡ None) }
+    ensures items { let octets = command_octets tc.now in
+        IfOk result (λ items. listed items ≡ items_in (subtype_of octets) (data_in octets)) }
+    ensures spelled { let octets = command_octets tc.now in
+        IfOk result (λ items. SpellsRequest (service_of octets) (subtype_of octets) (data_in octets) (listed items)) }
+    ensures fault { let octets = command_octets tc.now in
+        IfErr result (λ fault. request_fault_of (service_of octets) (subtype_of octets) (data_in octets) ≡ Some fault) }
 {
     let service = tc.service();
     if service != SERVICE {

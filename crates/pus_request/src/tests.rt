@@ -53,9 +53,21 @@ fn requests_are_written_and_read_back(rt: HostRuntime) {
     assert!(rt; octets.starts_with(&REQUEST));
     assert!(rt; octets[16..].iter().all(|octet| *octet == 0xaa));
     assert!(rt; spells(&octets[..16], &items));
-    assert_eq!(rt; write_request(0, 0, 0, &[Instruction::Enable(65535)], &mut octets), 14);
+    assert_eq!(rt;
+        write_request(0, 0, 0, &[Instruction::Enable(65535)], &mut octets),
+        14
+    );
     assert!(rt; spells(&octets[..14], &[Instruction::Enable(65535)]));
-    assert_eq!(rt; write_request(16383, 15, 65535, &[Instruction::Suspend(7); 32], &mut octets), 76);
+    assert_eq!(rt;
+        write_request(
+            16383,
+            15,
+            65535,
+            &[Instruction::Suspend(7); 32],
+            &mut octets
+        ),
+        76
+    );
     assert!(rt; spells(&octets[..76], &[Instruction::Suspend(7); 32]));
 }
 
@@ -75,7 +87,9 @@ fn the_first_fault_is_named(rt: HostRuntime) {
         (15, 1, &[1, 0, 7, 0], malformed(3)),
     ];
     for (service, subtype, body, fault) in rows {
-        let mut octets = [0x18, 0x0a, 0xc0, 0, 0, 0, 0x20, service, subtype, 0, 5, 0, 0, 0, 0];
+        let mut octets = [
+            0x18, 0x0a, 0xc0, 0, 0, 0, 0x20, service, subtype, 0, 5, 0, 0, 0, 0,
+        ];
         let end = 11 + body.len();
         assert!(rt; end <= octets.len());
         octets[5] = end as u8 - 7;

@@ -21,7 +21,8 @@ const PUS_VERSION: u8 = 2;
 /// The octets of both headers.
 const HEADERS: usize = 11;
 
-/// Writes the two headers of a request with `size` octets of data.
+/// Writes the two headers of a request with `size` octets of data, at most 513, into the first 11 octets of
+/// `out`, and leaves the rest.
 fn write_headers(count: u16, acks: u8, subtype: u8, source: u16, size: u16, out: &mut [u8])
     requires count_fits { count < 16384 }
     requires acks_fit { acks < 16 }
@@ -70,7 +71,13 @@ fn put_items(items: &[Instruction], out: &mut [u8], at: usize)
 /// request is a telecommand of APID 10 with this sequence count, below 16,384 (CCSDS 133.0-B, 4.1.3);
 /// its secondary header (ECSS-E-ST-70-41C, 7.4.4) has PUS version number 2, these acknowledgement flags,
 /// below 16, and this source identifier.
-pub fn write_request(count: u16, acks: u8, source: u16, items: &[Instruction], out: &mut [u8]) -> u32
+pub fn write_request(
+    count: u16,
+    acks: u8,
+    source: u16,
+    items: &[Instruction],
+    out: &mut [u8],
+) -> u32
     requires count_fits { count < 16384 }
     requires acks_fit { acks < 16 }
     requires asked { AreAsked (subtype_of_items items.now) items.now }

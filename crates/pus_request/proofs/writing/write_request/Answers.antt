@@ -1,4 +1,4 @@
-use Rattle.std.proofs.Common.{◌≡◌, ◌≤◌, ◌++◌, ◌+◌, ◌*◌, ◌∙◌, ap, drop, length, List, ℕ, arith}
+use Rattle.std.proofs.Common.{◌≡◌, ◌≤◌, ◌++◌, ◌+◌, ◌*◌, ◌∙◌, ap, drop, length, ℕ, arith}
 use Rattle.space_packet.specs.Header.{header_of}
 use Rattle.pst_model.specs.Requests.{data_of, request_primary, request_secondary, subtype_of_items}
 use Rattle.pst_model.proofs.RequestItems.{length-items_octets}
