@@ -1,4 +1,8 @@
-use Rattle.std.proofs.Common.{◌∙◌, sym, ap, arith}
+use Rattle.std.proofs.Common.{◌≡◌, ◌<◌, ℕ, ◌+◌, List, [], ◌∷◌, ◌++◌, length, sym, ◌∙◌, ap, arith}
+use Rattle.pus_request.specs.View.{listed}
+use Rattle.pst_model.specs.Table.{Table}
+use Rattle.handler.specs.Refusals.{code_of}
+use Rattle.handler.specs.Table.{table_of}
 use Rattle.handler.proofs.Carrying.{one_done, one_failed}
 use Rattle.handler.proofs.deciding.carry_out_all.Goals as goal
 use Rattle.handler.proofs.deciding.carry_out_all.Goals.{in-Err, in_default}
@@ -6,7 +10,26 @@ use Rattle.handler.proofs.deciding.carry_out_all.Goals.{in-Err, in_default}
 pub loop-at-preserved : goal.loop-at-preserved
 loop-at-preserved c =
     let so_far = c.loop-at.invariant in
+    let items = listed c.args.items.now in
+    let first = table_of c.args.table.now in
+    let now = table_of c.loop-at.table in
+    let next = table_of c.carry_out.new.self in
+    let failures = c.loop-at.failures.items in
+    let within : c.loop-at.at < length items = omega (arith, c.loop-at-test.true, c.len-at-end.ensures.length) in
     elim c.match-carry_out.branch [
-      | in-Err w ↦ let p = w.push.ensures in let f = w.failures-is in let e = w.in-Err.ensures in let k = w.code.ensures in ?
-      | in_default w ↦ let f = w.failures-is in let e = w.in_default in ?
+      | in-Err w ↦
+          let failed = w.in-Err.ensures in
+          record {
+            few = omega (arith, w.push.ensures.len, so_far.few, ap (λ f. length f.items) w.failures-is);
+            carried = one_failed items c.loop-at.at c.get.result first now failures within c.get.ensures.item so_far.carried (code_of w.in-Err.refusal) failed.0
+                ∙ ap (λ (t : Table). record { table = t; failures = failures ++ (c.loop-at.at + 1, code_of w.in-Err.refusal) ∷ [] }) (sym failed.1)
+                ∙ ap (λ (code : ℕ). record { table = next; failures = failures ++ (c.loop-at.at + 1, code) ∷ [] }) (sym w.code.ensures)
+                ∙ ap (λ (l : List (ℕ × ℕ)). record { table = next; failures = l }) (sym (ap (λ f. f.items) w.failures-is ∙ w.push.ensures.items));
+          }
+      | in_default w ↦
+          record {
+            few = omega (arith, so_far.few, ap (λ f. length f.items) w.failures-is);
+            carried = one_done items c.loop-at.at c.get.result first now failures within c.get.ensures.item so_far.carried next w.in_default.ensures
+                ∙ ap (λ (l : List (ℕ × ℕ)). record { table = next; failures = l }) (sym (ap (λ f. f.items) w.failures-is));
+          }
     ]
