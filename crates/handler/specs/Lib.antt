@@ -1,4 +1,5 @@
 pub mod Counting
+pub mod Faults
 pub mod Handler
 pub mod Kept
 pub mod Refusals

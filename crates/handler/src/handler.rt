@@ -1,5 +1,5 @@
 // The handler of commands.
-ghost use Rattle.std.specs.Prelude.{◌≡◌, ◌<◌, ◌^◌, ℕ, Err, true, false, is_ok, IsTrue, IfOk, OnOk, OnErr};
+ghost use Rattle.std.specs.Prelude.{◌≡◌, ◌<◌, ◌^◌, ℕ, Err, true, false, is_ok, IsOk, IsTrue, IfOk, OnOk, OnErr};
 ghost use Rattle.pst_model.specs.Rules.{grant};
 ghost use Rattle.handler.specs.Counting.{IsCountOf};
 ghost use Rattle.handler.specs.Sending.{BreaksIn, SendsLines};
@@ -52,6 +52,7 @@ impl Handler {
     ghost use Rattle.pst_model.specs.Answers.{answer};
     ghost use Rattle.pst_model.specs.Rules.{arrive};
     ghost use Rattle.pst_model.specs.Table.{after_format};
+    ghost use Rattle.handler.specs.Faults.{OnLink, OnNoMemory};
     ghost use Rattle.handler.specs.Handler.{is_open, table_in};
 
     /// A handler of the table after a format, which is open.
@@ -74,7 +75,7 @@ impl Handler {
     }
 
     /// Carries out the arrival of a packet at a moment below 2^48, of which no line goes out: the table
-    /// has no forward pattern. `NoMemory`: nothing of it was done. The board is not used.
+    /// has no forward pattern. `NoMemory`: nothing of it was done.
     pub fn arrival<B: Board>(
         &mut self,
         alloc: Global,
@@ -87,7 +88,9 @@ impl Handler {
         ensures table { OnOk result ((number : ℕ) → table_in self.new ≡ (arrive number moment (octets_of packet.entry) (table_in self.old)).table) }
         ensures sends { OnOk result ((number : ℕ) → SendsLines B.device B.moment B.sent B.counts board.old board.new (arrive number moment (octets_of packet.entry) (table_in self.old)).outputs) }
         ensures counted { IfOk result (λ sent. (number : ℕ) → IsCountOf (arrive number moment (octets_of packet.entry) (table_in self.old)).outputs sent) }
-        ensures fault { OnErr result ((result ≡ Err HandlerFault.NoMemory) × (board.new ≡ board.old) × (table_in self.new ≡ table_in self.old)) }
+        ensures breaks { OnLink result ((number : ℕ) → BreaksIn B.device B.moment B.sent B.counts board.old board.new (arrive number moment (octets_of packet.entry) (table_in self.old)).outputs) }
+        ensures nothing { OnNoMemory result ((board.new ≡ board.old) × (table_in self.new ≡ table_in self.old)) }
+        ensures faults { OnErr result (result ≡ Err HandlerFault.NoMemory) }
         ensures open { is_open self.new ≡ true }
     {
         match self.table.arrival(alloc, moment, packet) {
@@ -110,8 +113,9 @@ impl Handler {
         ensures table { OnOk result ((number : ℕ) → table_in self.new ≡ (answer number moment (octets_of packet.entry) (table_in self.old)).table) }
         ensures sends { OnOk result ((number : ℕ) → SendsLines B.device B.moment B.sent B.counts board.old board.new (answer number moment (octets_of packet.entry) (table_in self.old)).outputs) }
         ensures counted { IfOk result (λ sent. (number : ℕ) → IsCountOf (answer number moment (octets_of packet.entry) (table_in self.old)).outputs sent) }
-        ensures fault { OnErr result (result ≡ Err HandlerFault.Link) }
-        ensures breaks { OnErr result ((number : ℕ) → BreaksIn B.device B.moment B.sent B.counts board.old board.new (answer number moment (octets_of packet.entry) (table_in self.old)).outputs) }
+        ensures breaks { OnLink result ((number : ℕ) → BreaksIn B.device B.moment B.sent B.counts board.old board.new (answer number moment (octets_of packet.entry) (table_in self.old)).outputs) }
+        ensures nothing { OnNoMemory result ((board.new ≡ board.old) × (table_in self.new ≡ table_in self.old)) }
+        ensures faults { OnErr result (result ≡ Err HandlerFault.Link) }
         ensures open { is_open self.new ≡ is_ok result }
     {
         let verdicts = decide(&mut self.table, packet);
@@ -130,14 +134,26 @@ impl Handler {
         ensures table { OnOk result ((number : ℕ) → table_in self.new ≡ (grant number (table_in self.old)).table) }
         ensures sends { OnOk result ((number : ℕ) → SendsLines B.device B.moment B.sent B.counts board.old board.new (grant number (table_in self.old)).outputs) }
         ensures counted { IfOk result (λ sent. (number : ℕ) → IsCountOf (grant number (table_in self.old)).outputs sent) }
-        ensures fault { OnErr result (result ≡ Err HandlerFault.Link) }
-        ensures breaks { OnErr result ((number : ℕ) → BreaksIn B.device B.moment B.sent B.counts board.old board.new (grant number (table_in self.old)).outputs) }
+        ensures breaks { OnLink result ((number : ℕ) → BreaksIn B.device B.moment B.sent B.counts board.old board.new (grant number (table_in self.old)).outputs) }
+        ensures nothing { OnNoMemory result ((board.new ≡ board.old) × (table_in self.new ≡ table_in self.old)) }
+        ensures faults { OnErr result (result ≡ Err HandlerFault.Link) }
         ensures open { is_open self.new ≡ is_ok result }
     {
         match send_next(board, &mut self.table, &mut self.buffers) {
             Ok(sent) => Ok(sent),
             Err(_) => Err(self.close()),
         }
+    }
+
+    /// Ends a session: what has to be kept is kept. In memory there is nothing to do.
+    pub fn finish<B: Board>(&mut self, board: &mut B) -> Result<(), HandlerFault>
+        requires open { IsTrue (is_open self.old) }
+        ensures done { IsOk result }
+        ensures table { table_in self.new ≡ table_in self.old }
+        ensures board { board.new ≡ board.old }
+        ensures open { is_open self.new ≡ true }
+    {
+        Ok(())
     }
 
     // Closes the handler, since the link failed.

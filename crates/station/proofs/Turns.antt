@@ -203,7 +203,7 @@ module _ {B S : Type 0} (device : B → Device) (moment : B → ℕ) (sent : B �
       source_faults = omega (arith, carried.source_faults, unfailed);
     }
 
-    -- there was no memory for the command
+    -- there was no memory for the command, of which nothing was sent
     pub ended_memory : (counts board').link_faults ≡ (counts board).link_faults → (IsTrue (device board).tells_link → sent board' (moment board') ≡ sent board (moment board)) → Ended device moment sent counts tells left faults first board' origin source' NoMemory
     ended_memory kept unsent =
         ended_within NoMemory (λ is. cc) (λ told. tt)

@@ -1,13 +1,4 @@
-pub mod Acknowledged
-pub mod Boot
 pub mod Endings
-pub mod Kept
-pub mod Laws
-pub mod Least
 pub mod Rehearsal
-pub mod Rules
-pub mod Run
 pub mod Session
-pub mod Stops
-pub mod Table
 pub mod Words

@@ -1,87 +1,46 @@
 // One session: the commands of a text carried out on the table after a format, in memory.
-ghost use Rattle.std.specs.Prelude.{◌≡◌, ◌≤◌, ◌<◌, ◌++◌, ◌↔◌, ℕ, List, length, IsTrue, OnOk, OnErr, IfSome, IfNone};
+ghost use Rattle.std.specs.Prelude.{◌≡◌, ◌≤◌, ◌<◌, ◌++◌, ◌^◌, ◌↔◌, ℕ, List, true, IsTrue, OnOk, IfSome, IfNone};
 ghost use Rattle.board.specs.Counts.{Rose};
-ghost use Rattle.board.specs.Moments.{GainsFront, SendsOnly};
-ghost use Rattle.session_text.specs.Lending.{reader_of};
-ghost use Rattle.session_text.specs.Shown.{command_of};
-ghost use Rattle.station.specs.Boot.{table_of};
-ghost use Rattle.pst_model.specs.Rules.{grant};
-ghost use Rattle.pst_model.specs.Run.{lines_of, step};
-ghost use Rattle.station.specs.Session.{Carried, Ended, EndsAsTold, EndsReading, EndsSending, IsStart, MayBeSent, read_of, taken_of};
-ghost use Rattle.station.specs.Stops.{OnLink, OnNoMemory, UnlessLink};
+ghost use Rattle.board.specs.Moments.{SendsOnly};
+ghost use Rattle.pst_model.specs.Run.{step};
 ghost use Rattle.pst_model.specs.Table.{after_format};
+ghost use Rattle.session_text.specs.Lending.{reader_of};
+ghost use Rattle.session_text.specs.Shown.{command_of, moment_of};
+ghost use Rattle.handler.specs.Faults.{OnLink, OnNoMemory};
+ghost use Rattle.handler.specs.Handler.{is_open, table_in};
+ghost use Rattle.handler.specs.Sending.{BreaksIn, SendsLines};
+ghost use Rattle.station.specs.Session.{Carried, Ended, EndsAsTold, EndsReading, EndsSending, IsStart, MayBeSent, read_of, taken_of};
 ghost use Rattle.station.specs.Words.{AreFresh, texts_of};
 
-use crate::boot::{BootStore, CHANNEL};
 use crate::ending::Ending;
 use crate::words::are_fresh;
-use board::{Board, Failed, Source};
-use session_text::{Command, LineEnd, Lines, write_line};
+use board::{Board, Source};
+use handler::{Handler, HandlerFault, Sent};
+use session_text::{Command, LineEnd, Lines};
 use std::alloc::Global;
 
 /// The octets of a text that are taken, at most: 2^40.
 const TEXT_LIMIT: u64 = 1_099_511_627_776;
 
-/// The octets of the longest output line.
-const LONGEST_LINE: usize = 8195;
-
-/// Why a command was not carried out.
-pub enum Stop {
-    Link,
-    NoMemory,
-}
-
-// Sends the next packet, where there is one.
-fn send_next<B: Board>(store: &mut BootStore, line: &mut [u8], board: &mut B) -> Result<(), Failed>
-    requires { 8195 ≤ length line.old }
-    ensures table { OnOk result ((number : ℕ) → table_of store.new ≡ (grant number (table_of store.old)).table) }
-    ensures sent { OnOk result (IsTrue (B.device board.old).tells_link → (number : ℕ)
-        → B.sent board.new (B.moment board.new) ≡ B.sent board.old (B.moment board.old) ++ lines_of (grant number (table_of store.old)).outputs) }
-    ensures any_moment { IsTrue (B.device board.old).tells_link → (number : ℕ)
-        → SendsOnly B.moment B.sent board.old board.new (GainsFront (B.sent board.old (B.moment board.old)) (lines_of (grant number (table_of store.old)).outputs)) }
-    ensures same { B.device board.new ≡ B.device board.old }
-    ensures faults { (B.counts board.old).link_faults ≤ (B.counts board.new).link_faults }
-    ensures no_fault { OnOk result ((B.counts board.new).link_faults ≡ (B.counts board.old).link_faults) }
-    ensures cause { OnErr result (Rose (B.counts board.old).link_faults (B.counts board.new).link_faults) }
-{
-    let Some(packet) = store.next() else {
-        return Ok(());
-    };
-    let count = write_line(CHANNEL, packet, line);
-    board.send(&line[..count as usize])?;
-    store.pass();
-    Ok(())
-}
-
 // Carries out one command.
 fn carry_out<B: Board>(
     alloc: Global,
-    store: &mut BootStore,
-    line: &mut [u8],
+    handler: &mut Handler,
     board: &mut B,
     command: Command<'_>,
-) -> Result<(), Stop>
-    requires { 8195 ≤ length line.old }
-    ensures table { OnOk result ((number : ℕ) → table_of store.new ≡ (step number (command_of command.entry) (table_of store.old)).table) }
-    ensures sent { OnOk result (IsTrue (B.device board.old).tells_link → (number : ℕ)
-        → B.sent board.new (B.moment board.new) ≡ B.sent board.old (B.moment board.old) ++ lines_of (step number (command_of command.entry) (table_of store.old)).outputs) }
-    ensures unsent { OnNoMemory result (IsTrue (B.device board.old).tells_link → B.sent board.new (B.moment board.new) ≡ B.sent board.old (B.moment board.old)) }
-    ensures any_moment { IsTrue (B.device board.old).tells_link → (number : ℕ)
-        → SendsOnly B.moment B.sent board.old board.new (GainsFront (B.sent board.old (B.moment board.old)) (lines_of (step number (command_of command.entry) (table_of store.old)).outputs)) }
-    ensures same { B.device board.new ≡ B.device board.old }
-    ensures faults { (B.counts board.old).link_faults ≤ (B.counts board.new).link_faults }
-    ensures no_fault { UnlessLink result ((B.counts board.new).link_faults ≡ (B.counts board.old).link_faults) }
-    ensures cause { OnLink result (Rose (B.counts board.old).link_faults (B.counts board.new).link_faults) }
+) -> Result<Sent, HandlerFault>
+    requires open { IsTrue (is_open handler.old) }
+    requires moment { moment_of command < 2 ^ 48 }
+    ensures table { OnOk result ((number : ℕ) → table_in handler.new ≡ (step number (command_of command.entry) (table_in handler.old)).table) }
+    ensures sends { OnOk result ((number : ℕ) → SendsLines B.device B.moment B.sent B.counts board.old board.new (step number (command_of command.entry) (table_in handler.old)).outputs) }
+    ensures breaks { OnLink result ((number : ℕ) → BreaksIn B.device B.moment B.sent B.counts board.old board.new (step number (command_of command.entry) (table_in handler.old)).outputs) }
+    ensures nothing { OnNoMemory result (board.new ≡ board.old) }
+    ensures open { OnOk result (is_open handler.new ≡ true) }
 {
     match command {
-        Command::Arrival { moment, packet } => match store.arrival(alloc, moment, packet) {
-            Ok(()) => Ok(()),
-            Err(_) => Err(Stop::NoMemory),
-        },
-        Command::Grant { .. } => match send_next(store, line, board) {
-            Ok(()) => Ok(()),
-            Err(_) => Err(Stop::Link),
-        },
+        Command::Arrival { moment, packet } => handler.arrival(alloc, board, moment, packet),
+        Command::Request { moment, packet } => handler.request(alloc, board, moment, packet),
+        Command::Grant { moment } => handler.grant(board, moment),
     }
 }
 
@@ -89,29 +48,29 @@ fn carry_out<B: Board>(
 fn take_turn<B: Board, S: Source>(
     alloc: Global,
     lines: &mut Lines,
-    store: &mut BootStore,
-    line: &mut [u8],
+    handler: &mut Handler,
     source: &mut S,
     board: &mut B,
 ) -> Option<Ending>
-    requires room { 8195 ≤ length line.old }
+    requires open { IsTrue (is_open handler.old) }
     requires live { IsTrue (reader_of lines.old).live }
     ensures goes_on { IfNone result ((first : _) (origin : _)
-        → Carried B.device B.moment B.sent B.counts S.tells S.left S.faults first board.old origin source.old (reader_of lines.old) (table_of store.old)
-        → Carried B.device B.moment B.sent B.counts S.tells S.left S.faults first board.new origin source.new (reader_of lines.new) (table_of store.new)) }
+        → Carried B.device B.moment B.sent B.counts S.tells S.left S.faults first board.old origin source.old (reader_of lines.old) (table_in handler.old)
+        → Carried B.device B.moment B.sent B.counts S.tells S.left S.faults first board.new origin source.new (reader_of lines.new) (table_in handler.new)) }
     ensures ends { IfSome result (λ ending. (first : _) (origin : _)
-        → Carried B.device B.moment B.sent B.counts S.tells S.left S.faults first board.old origin source.old (reader_of lines.old) (table_of store.old)
+        → Carried B.device B.moment B.sent B.counts S.tells S.left S.faults first board.old origin source.old (reader_of lines.old) (table_in handler.old)
         → Ended B.device B.moment B.sent B.counts S.tells S.left S.faults first board.new origin source.new ending) }
     ensures progress { IfNone result ((reader_of lines.old).place < (reader_of lines.new).place) }
     ensures within { (reader_of lines.new).place ≤ (reader_of lines.new).limit }
     ensures limit { (reader_of lines.new).limit ≡ (reader_of lines.old).limit }
     ensures live { IfNone result (IsTrue (reader_of lines.new).live) }
+    ensures open { IfNone result (IsTrue (is_open handler.new)) }
 {
     match lines.next_line(source) {
-        Ok(Some(command)) => match carry_out(alloc, store, line, board, command) {
-            Ok(()) => None,
-            Err(Stop::Link) => Some(Ending::LinkFault),
-            Err(Stop::NoMemory) => Some(Ending::NoMemory),
+        Ok(Some(command)) => match carry_out(alloc, handler, board, command) {
+            Ok(_) => None,
+            Err(HandlerFault::Link) => Some(Ending::LinkFault),
+            Err(HandlerFault::NoMemory) => Some(Ending::NoMemory),
         },
         Ok(None) => Some(Ending::Done),
         Err(LineEnd::Bad { line, why }) => Some(Ending::BadLine { line, why }),
@@ -123,18 +82,17 @@ fn take_turn<B: Board, S: Source>(
 fn carry_out_all<B: Board, S: Source>(
     alloc: Global,
     lines: &mut Lines,
-    store: &mut BootStore,
-    line: &mut [u8],
+    handler: &mut Handler,
     source: &mut S,
     board: &mut B,
 ) -> Ending
-    requires room { 8195 ≤ length line.old }
+    requires open { IsTrue (is_open handler.old) }
     requires reader { IsStart (reader_of lines.old) }
-    requires table { table_of store.old ≡ after_format }
+    requires table { table_in handler.old ≡ after_format }
     ensures { Ended B.device B.moment B.sent B.counts S.tells S.left S.faults board.old board.new source.old source.new result }
 {
     'commands: loop {
-        if let Some(ending) = take_turn(alloc, lines, store, line, source, board) {
+        if let Some(ending) = take_turn(alloc, lines, handler, source, board) {
             return ending;
         }
     }
@@ -181,9 +139,8 @@ pub fn station<B: Board, S: Source>(
     let Ok(mut lines) = Lines::new(alloc, TEXT_LIMIT) else {
         return Ending::NoMemory;
     };
-    let Ok(mut line) = vec![in alloc; 0u8; LONGEST_LINE] else {
+    let Ok(mut handler) = Handler::new(alloc) else {
         return Ending::NoMemory;
     };
-    let mut store = BootStore::new(alloc);
-    carry_out_all(alloc, &mut lines, &mut store, &mut line, source, board)
+    carry_out_all(alloc, &mut lines, &mut handler, source, board)
 }

@@ -1,10 +1,19 @@
 use Rattle.station.proofs.session.carry_out.Goals as goal
 
-pub returns-in-Ok-clause-table : goal.returns-in-Ok-clause-table
-returns-in-Ok-clause-table g c = rw c.in-Arrival.is c.in-Ok.ensures.table
+pub returns-in-Arrival-clause-table : goal.returns-in-Arrival-clause-table
+returns-in-Arrival-clause-table g c = rw c.in-Arrival.is c.arrival.ensures.table
 
-pub returns-in-Ok-send_next-clause-any_moment : goal.returns-in-Ok-send_next-clause-any_moment
-returns-in-Ok-send_next-clause-any_moment g c = rw c.in-Grant.is c.send_next.ensures.any_moment
+pub returns-in-Arrival-clause-sends : goal.returns-in-Arrival-clause-sends
+returns-in-Arrival-clause-sends g c = rw c.in-Arrival.is c.arrival.ensures.sends
 
-pub returns-in-Err-send_next-clause-any_moment : goal.returns-in-Err-send_next-clause-any_moment
-returns-in-Err-send_next-clause-any_moment g c = rw c.in-Grant.is c.send_next.ensures.any_moment
+pub returns-in-Request-clause-table : goal.returns-in-Request-clause-table
+returns-in-Request-clause-table g c = rw c.in-Request.is c.request.ensures.table
+
+pub returns-in-Request-clause-sends : goal.returns-in-Request-clause-sends
+returns-in-Request-clause-sends g c = rw c.in-Request.is c.request.ensures.sends
+
+pub returns-in-Request-clause-breaks : goal.returns-in-Request-clause-breaks
+returns-in-Request-clause-breaks g c = rw c.in-Request.is c.request.ensures.breaks
+
+pub returns-in-Grant-clause-breaks : goal.returns-in-Grant-clause-breaks
+returns-in-Grant-clause-breaks g c = rw c.in-Grant.is c.grant.ensures.breaks

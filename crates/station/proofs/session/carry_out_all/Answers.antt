@@ -8,6 +8,7 @@ commands-init g c =
     let source = g.S.Source in
     record {
       carried = carried_none board.device board.moment board.sent board.counts source.tells source.left source.faults c.args.board.now c.args.source.now _ _ c.requires.reader c.requires.table;
+      «open» = search rules;
       live = search rules;
       limit = search rules;
       within = search rules;

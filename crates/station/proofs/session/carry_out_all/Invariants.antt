@@ -1,7 +1,7 @@
 use Rattle.std.proofs.Common.{◌-◌, ◌≡◌, ◌≤◌}
 use Rattle.std.specs.Prelude.{IsTrue}
 use Rattle.session_text.specs.Lending.{reader_of}
-use Rattle.station.specs.Boot.{table_of}
+use Rattle.handler.specs.Handler.{is_open, table_in}
 use Rattle.station.specs.Session.{Carried, text_limit}
 use Rattle.station.proofs.session.carry_out_all.Given as goal
 
@@ -10,7 +10,8 @@ invariant-commands g l =
     let board = g.B.Board in
     let source = g.S.Source in
     record {
-      carried : Carried board.device board.moment board.sent board.counts source.tells source.left source.faults l.fn.board l.board l.fn.source l.source (reader_of l.lines) (table_of l.store);
+      carried : Carried board.device board.moment board.sent board.counts source.tells source.left source.faults l.fn.board l.board l.fn.source l.source (reader_of l.lines) (table_in l.handler);
+      «open» : IsTrue (is_open l.handler);
       live : IsTrue (reader_of l.lines).live;
       limit : (reader_of l.lines).limit ≡ text_limit;
       within : (reader_of l.lines).place ≤ text_limit;

@@ -30,9 +30,11 @@ returns-in-Ok-clause-counted g c number =
     (c.in-Ok.ensures.counted number)
 
 pub returns-in-Err-clause-breaks : goal.returns-in-Err-clause-breaks
-returns-in-Err-clause-breaks g c number =
+returns-in-Err-clause-breaks g c =
     let board = g.B.Board in
+    rw c.close.ensures.fault
+    (λ (number : ℕ).
     subst (λ (step : Step). BreaksIn board.device board.moment board.sent board.counts c.args.board.now c.send_verdicts.new.board step.outputs)
     (answered number c.args.moment (octets_of c.args.packet) c.identifier_of-identifier.result (table_of c.args.self.now.table) (table_of c.decide-verdicts.new.table) c.decide-verdicts.result.items c.as_slice.result.now
     c.decide-verdicts.ensures c.identifier_of-identifier.ensures c.as_slice.ensures.value)
-    (c.in-Err.ensures.breaks number)
+    (c.in-Err.ensures.breaks number))
