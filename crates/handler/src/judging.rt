@@ -16,9 +16,13 @@ const APID: u16 = 10;
 
 // The codes of the judgements, in their order.
 const WRONG_APID: u8 = 1;
+
 const BAD_HEADER: u8 = 2;
+
 const UNKNOWN_SERVICE: u8 = 3;
+
 const UNKNOWN_SUBTYPE: u8 = 4;
+
 const MALFORMED: u8 = 5;
 
 /// A request that no judgement refuses.
