@@ -7,6 +7,7 @@ pub mod Laws
 pub mod Least
 pub mod Output
 pub mod ReadBack
+pub mod PatternOctets
 pub mod Reports
 pub mod Requests
 pub mod Rules

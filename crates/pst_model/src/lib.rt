@@ -5,6 +5,7 @@
 
 mod faults;
 mod requests;
+mod rows;
 mod table;
 mod text;
 mod verdicts;
@@ -13,6 +14,7 @@ pub use faults::{LineFault, RequestFault};
 pub use requests::{
     no_spelling_begins_another, one_reading, request_or_fault, written_requests_read_back,
 };
+pub use rows::{ConfigRow, StatusRow, SummaryRow};
 pub use table::{
     behind_stays_within, circular_stores_refuse_only_larger, failed_instructions_change_nothing,
     fewest_leave, reports_are_counted, runs_in_turn,
