@@ -1,12 +1,12 @@
 -- Each report raises the count of reports by one.
-use Rattle.std.proofs.Common.{◌≡◌, ◌<◌, ℕ, ◌+◌, ◌%◌, Bool, true, false, List, [], ◌∷◌, ◌++◌, Option, Some, None, length, refl, sym, ◌∙◌, ap, arith}
+use Rattle.std.proofs.Common.{◌≡◌, ◌<◌, ℕ, ◌+◌, List, [], ◌∷◌, ◌++◌, Option, Some, None, length, refl, sym, ◌∙◌, ap, arith}
 use Rattle.std.proofs.lemmas.Bool.{cond_both}
 use Rattle.std.proofs.lemmas.List.Sums.{sum_by-cons}
-use Rattle.std.specs.Prelude.{find, map, max, ◌==◌, if◌then◌else◌}
+use Rattle.std.specs.Prelude.{find, ◌==◌, if◌then◌else◌}
 use Rattle.space_packet.specs.Packet.{apid_of}
 use Rattle.pus_header.specs.Commands.{acks_of, subtype_of}
 use Rattle.pst_model.specs.declared.verdicts.Verdict.{Verdict}
-use Rattle.pst_model.specs.Answers.{answer_by, answer_carried, carry_out, data_in, on_request, refusal_of, replied, replies_from, reply, verdicts_of}
+use Rattle.pst_model.specs.Answers.{answer_by, carry_out, data_in, on_request, refusal_of, replied, replies_from, reply, verdicts_of}
 use Rattle.pst_model.specs.Command.{Command, Arrival, Request, Grant}
 use Rattle.pst_model.specs.Laws.{is_reply, replies_in}
 use Rattle.pst_model.specs.Reports.{Report, count_behind}

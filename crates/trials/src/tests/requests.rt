@@ -134,12 +134,13 @@ fn flags_ask_for_reports(rt: HostRuntime) -> Result<(), Fail> {
         )?;
         let text = text.replace(alloc, "01 0001", "010001")?;
         let mut answers: Vec<(u8, &str)> = Vec::new(alloc);
+        let mut done: u16 = 0;
         for (flag, subtype) in [(1, 1), (2, 3), (8, 7)] {
             if acks & flag != 0 {
                 answers.push((subtype, ""))?;
+                done = done.saturating_add(1);
             }
         }
-        let done = answers.len() as u16;
         let mut expected = reports(alloc, 0, "180ac000", &answers)?;
         answers.clear();
         if acks & 1 != 0 {
