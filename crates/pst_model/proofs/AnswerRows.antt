@@ -4,7 +4,7 @@ use Rattle.std.specs.Prelude.{map}
 use Rattle.std.specs.List.{range_with_len}
 use Rattle.pst_model.specs.declared.verdicts.Verdict.{Verdict}
 use Rattle.pst_model.specs.declared.verdicts.Verdict.TheVariants.{Accepted, Refused, Started, StartFailed, Completed, CompletionFailed}
-use Rattle.pst_model.specs.Answers.{refusal_of, verdicts_of}
+use Rattle.pst_model.specs.Answers.{completed, refusal_of, verdicts_before}
 use Rattle.pst_model.specs.Command.{Arrival, Request, Grant}
 use Rattle.pst_model.specs.Rules.{Output, Reply}
 use Rattle.pst_model.specs.Run.{run}
@@ -91,7 +91,7 @@ none_refuses : refusal_of suspend ≡ None
 none_refuses = refl
 
 -- each combination of the acknowledgement flags, where nothing fails and where the third instruction does
-none_failed : map (λ acks. verdicts_of acks []) (range_with_len 0 16)
+none_failed : map (λ acks. verdicts_before acks [] ++ completed acks []) (range_with_len 0 16)
     ≡ [] ∷ (Accepted ∷ []) ∷ (Started ∷ []) ∷ (Accepted ∷ Started ∷ []) ∷ [] ∷ (Accepted ∷ []) ∷ (Started ∷ []) ∷ (Accepted ∷ Started ∷ [])
     ∷ (Completed ∷ []) ∷ (Accepted ∷ Completed ∷ []) ∷ (Started ∷ Completed ∷ []) ∷ (Accepted ∷ Started ∷ Completed ∷ [])
     ∷ (Completed ∷ []) ∷ (Accepted ∷ Completed ∷ []) ∷ (Started ∷ Completed ∷ []) ∷ (Accepted ∷ Started ∷ Completed ∷ []) ∷ []
@@ -100,7 +100,7 @@ none_failed = refl
 abbrev third : List Verdict
 third = StartFailed 22 3 ∷ CompletionFailed 23 1 ∷ []
 
-one_failed : map (λ acks. verdicts_of acks ((3, 22) ∷ [])) (range_with_len 0 16)
+one_failed : map (λ acks. verdicts_before acks ((3, 22) ∷ []) ++ completed acks ((3, 22) ∷ [])) (range_with_len 0 16)
     ≡ third ∷ (Accepted ∷ third) ∷ third ∷ (Accepted ∷ third) ∷ third ∷ (Accepted ∷ third) ∷ third ∷ (Accepted ∷ third)
     ∷ third ∷ (Accepted ∷ third) ∷ third ∷ (Accepted ∷ third) ∷ third ∷ (Accepted ∷ third) ∷ third ∷ (Accepted ∷ third) ∷ []
 one_failed = refl

@@ -2,11 +2,12 @@
 use Rattle.std.proofs.Common.{◌≡◌, ℕ, ◌+◌, Bool, true, false, List, [], ◌∷◌, ◌++◌, length, Option, Some, None, Result, Ok, Err, refl, sym, ◌∙◌, ap, subst, arith}
 use Rattle.std.proofs.lemmas.Bool.{cond_both}
 use Rattle.std.proofs.lemmas.List.Elements.{All-head, All-tail}
-use Rattle.std.specs.Prelude.{All, IfOk, find, if◌then◌else◌}
+use Rattle.std.specs.Prelude.{All, IfOk, find, is_some, if◌then◌else◌}
 use Rattle.control_defs.specs.declared.instructions.Instruction.{Instruction}
-use Rattle.control_defs.specs.declared.instructions.Instruction.TheVariants.{Enable, Disable, Resume, Suspend}
+use Rattle.control_defs.specs.declared.instructions.Instruction.TheVariants.{ForwardAdd, ForwardDelete, ForwardReport, Enable, Disable, AddTypes, DeleteTypes, ReportTypes, Summary, Resume, Suspend, Status, Configuration}
+use Rattle.control_defs.specs.declared.patterns.Pattern.{Pattern}
 use Rattle.pst_model.specs.Answers.{Carried, carried_by, carry_out_from, failed_first}
-use Rattle.pst_model.specs.Instructions.{already_so, change_found, change_store, instruct, is_named, set_open, set_storage, with_changed}
+use Rattle.pst_model.specs.Instructions.{add_pattern, already_so, asked_about, delete_pattern, unknown_store, with_forward, with_types, change_found, change_store, instruct, is_named, set_open, set_storage, with_changed}
 use Rattle.pst_model.specs.Rules.{at_first}
 use Rattle.pst_model.specs.Table.{Store, Table}
 
@@ -89,9 +90,32 @@ change_reports : (count identifier : ℕ) (table : Table) (change : Store → Re
 change_reports count identifier table change is =
     change_keeps (λ (next : Table). next.reports ≡ count) identifier table change (λ store found. always (table.reports ≡ count) (change store) is)
 
+-- a change of the forward list keeps what does not speak of it
+pub forward_keeps : (P : Table → Type 0) (table : Table) (outcome : Result (List Pattern) ℕ) → ((patterns : List Pattern) → P (record table { forward = patterns })) → IfOk (with_forward table outcome) P
+forward_keeps P table (Ok patterns) keeps = keeps patterns
+forward_keeps P table (Err code) keeps = tt
+
+-- a question keeps all
+pub asked_keeps : (P : Table → Type 0) (identifier : ℕ) (table : Table) → P table → IfOk (asked_about identifier table) P
+asked_keeps P identifier table holds = cond_both (is_some (find (is_named identifier) table.stores)) (Ok table) (Err unknown_store) (λ (r : Result Table ℕ). IfOk r P) (λ stands. holds) (λ none. tt)
+
+-- a change of a store's patterns keeps what does not speak of them
+pub types_keeps : (Q : Store → Type 0) (store : Store) (outcome : Result (List Pattern) ℕ) → ((patterns : List Pattern) → Q (record store { patterns = patterns })) → IfOk (with_types store outcome) Q
+types_keeps Q store (Ok patterns) keeps = keeps patterns
+types_keeps Q store (Err code) keeps = tt
+
 pub instruct_reports : (count : ℕ) (item : Instruction) (table : Table) → table.reports ≡ count → IfOk (instruct item table) (λ (next : Table). next.reports ≡ count)
+instruct_reports count (ForwardAdd pattern) table is = forward_keeps (λ (next : Table). next.reports ≡ count) table (add_pattern pattern table.forward) (λ patterns. is)
+instruct_reports count (ForwardDelete pattern) table is = forward_keeps (λ (next : Table). next.reports ≡ count) table (delete_pattern pattern table.forward) (λ patterns. is)
+instruct_reports count ForwardReport table is = is
 instruct_reports count (Enable store) table is = change_reports count store table (set_storage true) is
 instruct_reports count (Disable store) table is = change_reports count store table (set_storage false) is
+instruct_reports count (AddTypes store pattern) table is = change_reports count store table (λ s. with_types s (add_pattern pattern s.patterns)) is
+instruct_reports count (DeleteTypes store pattern) table is = change_reports count store table (λ s. with_types s (delete_pattern pattern s.patterns)) is
+instruct_reports count (ReportTypes store) table is = asked_keeps (λ (next : Table). next.reports ≡ count) store table is
+instruct_reports count (Summary store) table is = asked_keeps (λ (next : Table). next.reports ≡ count) store table is
 instruct_reports count (Resume store) table is = change_reports count store table (set_open true) is
 instruct_reports count (Suspend store) table is = change_reports count store table (set_open false) is
+instruct_reports count Status table is = is
+instruct_reports count Configuration table is = is
 instruct_reports count _ table is = tt

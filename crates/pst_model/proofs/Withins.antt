@@ -6,19 +6,19 @@ use Rattle.std.specs.Prelude.{All, ◌&&◌, ◌==◌, IfOk, find, max, nat_lt}
 use Rattle.std.proofs.lemmas.Result.{IfOk-weaker}
 use Rattle.space_packet.specs.Charge.{charge_of}
 use Rattle.control_defs.specs.declared.instructions.Instruction.{Instruction}
-use Rattle.control_defs.specs.declared.instructions.Instruction.TheVariants.{Enable, Disable, Resume, Suspend}
+use Rattle.control_defs.specs.declared.instructions.Instruction.TheVariants.{ForwardAdd, ForwardDelete, ForwardReport, Enable, Disable, AddTypes, DeleteTypes, ReportTypes, Summary, Resume, Suspend, Status, Configuration}
 use Rattle.pus_header.specs.Commands.{subtype_of}
 use Rattle.pus_header.specs.Keys.{key_of}
 use Rattle.pst_model.specs.declared.verdicts.Verdict.{Verdict}
 use Rattle.space_packet.specs.Packet.{apid_of}
 use Rattle.pst_model.specs.Command.{Command, Arrival, Request, Grant}
 use Rattle.pst_model.specs.Answers.{answer_by, data_in, refusal_of}
-use Rattle.pst_model.specs.Instructions.{change_store, instruct, is_named, set_open, set_storage}
+use Rattle.pst_model.specs.Instructions.{add_pattern, change_store, delete_pattern, with_types, instruct, is_named, set_open, set_storage}
 use Rattle.pst_model.specs.Laws.{IsWithin}
 use Rattle.pst_model.specs.Requests.{items_in}
 use Rattle.pst_model.specs.Rules.{Refused, Step, Taken, any_covers, arrive, at_first, behind_put, grant_open, grant_range, has_ahead, has_range, is_refused, offered, put, range_sent, to_drop, with_last}
 use Rattle.pst_model.specs.Run.{step}
-use Rattle.pst_model.proofs.Carried.{carry_keeps, change_keeps, found_has, open_keeps, storage_keeps}
+use Rattle.pst_model.proofs.Carried.{asked_keeps, carry_keeps, forward_keeps, types_keeps, change_keeps, found_has, open_keeps, storage_keeps}
 use Rattle.pst_model.specs.Table.{Store, Stored, Table, drop_front}
 
 put_within : (stored : Stored) (store : Store) → IsWithin store → IsWithin (behind_put store (put store stored))
@@ -66,6 +66,15 @@ change_within identifier table change keeps within =
     (keeps store (found_has IsWithin (is_named identifier) table.stores store within found)))
 
 instruct_within : (item : Instruction) (table : Table) → All IsWithin table.stores → IfOk (instruct item table) (λ (next : Table). All IsWithin next.stores)
+instruct_within (ForwardAdd pattern) table within = forward_keeps (λ (next : Table). All IsWithin next.stores) table (add_pattern pattern table.forward) (λ patterns. within)
+instruct_within (ForwardDelete pattern) table within = forward_keeps (λ (next : Table). All IsWithin next.stores) table (delete_pattern pattern table.forward) (λ patterns. within)
+instruct_within ForwardReport table within = within
+instruct_within (AddTypes store pattern) table within = change_within store table (λ s. with_types s (add_pattern pattern s.patterns)) (λ s le. types_keeps IsWithin s (add_pattern pattern s.patterns) (λ patterns. le)) within
+instruct_within (DeleteTypes store pattern) table within = change_within store table (λ s. with_types s (delete_pattern pattern s.patterns)) (λ s le. types_keeps IsWithin s (delete_pattern pattern s.patterns) (λ patterns. le)) within
+instruct_within (ReportTypes store) table within = asked_keeps (λ (next : Table). All IsWithin next.stores) store table within
+instruct_within (Summary store) table within = asked_keeps (λ (next : Table). All IsWithin next.stores) store table within
+instruct_within Status table within = within
+instruct_within Configuration table within = within
 instruct_within (Enable store) table within = change_within store table (set_storage true) (λ s le. storage_keeps IsWithin s (λ flag. le) (λ flag. le) true) within
 instruct_within (Disable store) table within = change_within store table (set_storage false) (λ s le. storage_keeps IsWithin s (λ flag. le) (λ flag. le) false) within
 instruct_within (Resume store) table within = change_within store table (set_open true) (λ s le. open_keeps IsWithin s (λ flag. le) (λ flag. le) true) within

@@ -9,6 +9,7 @@ use Rattle.pst_model.specs.declared.faults.RequestFault.{RequestFault}
 use Rattle.pst_model.specs.declared.faults.RequestFault.TheVariants.{UnknownService, UnknownSubtype, Malformed}
 use Rattle.pst_model.specs.declared.verdicts.Verdict.{Verdict}
 use Rattle.pst_model.specs.declared.verdicts.Verdict.TheVariants.{Accepted, Refused, Started, StartFailed, Completed, CompletionFailed}
+use Rattle.pst_model.specs.Contents.{content_report}
 use Rattle.pst_model.specs.Instructions.{instruct}
 use Rattle.pst_model.specs.Reports.{Report, count_behind, report_packet, verdict_report}
 use Rattle.pst_model.specs.Requests.{items_in, request_fault_of}
@@ -93,10 +94,10 @@ completed acks [] = if_asked (asks_completion acks) Completed
 completed acks (failure ∷ failures) = CompletionFailed 23 (length (failure ∷ failures)) ∷ []
 
 -- The verdicts on a request that is not refused, in their order: [1,1] where asked, [1,4] for each failed
--- instruction, [1,3] where asked and none failed, then [1,8] where some failed, else [1,7] where asked.
-abbrev pub verdicts_of : (acks : ℕ) → List (ℕ × ℕ) → List Verdict
-verdicts_of acks failures =
-    if_asked (asks_acceptance acks) Accepted ++ map failed_start failures ++ started acks failures ++ completed acks failures
+-- instruction, [1,3] where asked and none failed; and then, behind the content report, [1,8] where some failed,
+-- else [1,7] where asked.
+abbrev pub verdicts_before : (acks : ℕ) → List (ℕ × ℕ) → List Verdict
+verdicts_before acks failures = if_asked (asks_acceptance acks) Accepted ++ map failed_start failures ++ started acks failures
 
 -- a report as an output, with this sequence count
 abbrev pub reply : (number moment count : ℕ) → Report → Output
@@ -121,15 +122,21 @@ identifier_of packet = take 4 packet
 abbrev pub on_request : (packet : List ℕ) → List Verdict → List Report
 on_request packet verdicts = map (verdict_report (identifier_of packet)) verdicts
 
+-- the reports on a request that is not refused, whose instructions were carried out
+abbrev pub reports_on : (packet : List ℕ) → List Instruction → Carried → List Report
+reports_on packet items carried =
+    on_request packet (verdicts_before (acks_of packet) carried.failures)
+    ++ content_report items carried.table
+    ++ on_request packet (completed (acks_of packet) carried.failures)
+
 -- a request that is not refused
-abbrev pub answer_carried : (number moment : ℕ) → (packet : List ℕ) → Carried → Step
-answer_carried number moment packet carried =
-    replied number moment carried.table (on_request packet (verdicts_of (acks_of packet) carried.failures))
+abbrev pub answer_carried : (number moment : ℕ) → (packet : List ℕ) → List Instruction → Carried → Step
+answer_carried number moment packet items carried = replied number moment carried.table (reports_on packet items carried)
 
 abbrev pub answer_by : (number moment : ℕ) → (packet : List ℕ) → Table → Option Verdict → Step
 answer_by number moment packet table (Some verdict) = replied number moment table (on_request packet (verdict ∷ []))
 answer_by number moment packet table None =
-    answer_carried number moment packet (carry_out (items_in (subtype_of packet) (data_in packet)) table)
+    answer_carried number moment packet (items_in (subtype_of packet) (data_in packet)) (carry_out (items_in (subtype_of packet) (data_in packet)) table)
 
 -- A request: where a judgement refuses it, [1,2] alone answers it. Else its instructions are taken in order,
 -- each of which takes effect or fails, and a failed one changes nothing.

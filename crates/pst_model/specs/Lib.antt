@@ -1,6 +1,7 @@
 pub mod Acknowledged
 pub mod Answers
 pub mod Command
+pub mod Contents
 pub mod Forms
 pub mod Instructions
 pub mod Laws
