@@ -1,5 +1,5 @@
 -- Lists of patterns: sorted, and none covers another.
-use Rattle.std.specs.Prelude.{◌≡◌, ◌≤◌, ◌++◌, ℕ, Bool, true, false, not, if◌then◌else◌, List, [], ◌∷◌, length, filter, All, AllPairs}
+use Rattle.std.specs.Prelude.{◌≡◌, ◌≤◌, ◌++◌, ℕ, false, not, if◌then◌else◌, List, ◌∷◌, length, filter, All, AllPairs}
 use Rattle.std.specs.List.{AllWithin, list_any}
 use Rattle.std.specs.Ordering.{is_eq, is_lt, nat_cmp, ordering_then}
 use Rattle.std.specs.declared.cmp.Ordering.{Ordering}
@@ -84,7 +84,3 @@ with_pattern pattern patterns =
 -- a list without a pattern itself
 abbrev pub without_pattern : Pattern → List Pattern → List Pattern
 without_pattern pattern patterns = filter (λ other. not (is_eq (pattern_cmp other pattern))) patterns
-
--- whether a pattern itself stands in a list
-abbrev pub is_standing : Pattern → List Pattern → Bool
-is_standing pattern patterns = list_any (λ other. is_eq (pattern_cmp other pattern)) patterns

@@ -1,6 +1,6 @@
 // Patterns, which say what packets are forwarded or stored.
 ghost use Rattle.std.specs.Prelude.{◌≡◌};
-ghost use Rattle.control_defs.specs.Patterns.{covers};
+ghost use Rattle.control_defs.specs.Patterns.{covers, pattern_covers};
 
 use crate::keys::Key;
 
@@ -33,6 +33,28 @@ impl Pattern {
             Pattern::Kind(apid, service, subtype) => {
                 key.apid == apid && key.kind == Some((service, subtype))
             }
+        }
+    }
+
+    /// Whether each key in the other set is in this one.
+    pub fn covers_pattern(&self, other: &Pattern) -> bool
+        ensures { result ≡ pattern_covers self.now other.now }
+    {
+        match (*self, *other) {
+            (Pattern::Every, _) => true,
+            (
+                Pattern::App(apid),
+                Pattern::App(other_apid)
+                | Pattern::Service(other_apid, _)
+                | Pattern::Kind(other_apid, _, _),
+            ) => { apid == other_apid }
+            (
+                Pattern::Service(apid, service),
+                Pattern::Service(other_apid, other_service)
+                | Pattern::Kind(other_apid, other_service, _),
+            ) => { apid == other_apid && service == other_service }
+            (Pattern::Kind(..), Pattern::Kind(..)) => self == other,
+            _ => false,
         }
     }
 }
