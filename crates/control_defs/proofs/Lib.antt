@@ -1,1 +1,5 @@
+pub mod Covering
+pub mod Kept
+pub mod Order
+pub mod Parts
 mod Rows

@@ -1,6 +1,6 @@
 // Patterns, which say what packets are forwarded or stored.
 ghost use Rattle.std.specs.Prelude.{◌≡◌};
-ghost use Rattle.control_defs.specs.Patterns.{covers};
+ghost use Rattle.control_defs.specs.Patterns.{covers, pattern_covers};
 
 use crate::keys::Key;
 
@@ -33,6 +33,23 @@ impl Pattern {
             Pattern::Kind(apid, service, subtype) => {
                 key.apid == apid && key.kind == Some((service, subtype))
             }
+        }
+    }
+
+    /// Whether each key in the other set is in this one.
+    pub fn covers_pattern(&self, other: &Pattern) -> bool
+        ensures { result ≡ pattern_covers self.now other.now }
+    {
+        match (*self, *other) {
+            (Pattern::Every, _) => true,
+            (Pattern::App(apid), Pattern::App(inner) | Pattern::Service(inner, _) | Pattern::Kind(inner, _, _)) => {
+                apid == inner
+            }
+            (Pattern::Service(apid, service), Pattern::Service(inner, part) | Pattern::Kind(inner, part, _)) => {
+                apid == inner && service == part
+            }
+            (Pattern::Kind(..), Pattern::Kind(..)) => self == other,
+            _ => false,
         }
     }
 }

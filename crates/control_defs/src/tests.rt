@@ -1,4 +1,4 @@
-// Patterns over keys.
+// Patterns over keys, and lists of patterns.
 
 use super::*;
 
@@ -32,4 +32,15 @@ fn patterns_cover_keys(rt: HostRuntime) {
     }
     assert!(rt; Pattern::App(2047) < Pattern::Service(0, 0));
     assert!(rt; Pattern::Service(7, 3) < Pattern::Service(7, 4));
+}
+
+// The list of these patterns, added in turn.
+fn list_of(patterns: &[Pattern]) -> Patterns
+    requires { All IsPattern patterns.now }
+{
+    let mut list = Patterns::new();
+    for pattern in patterns {
+        let _ = list.add(*pattern);
+    }
+    list
 }
