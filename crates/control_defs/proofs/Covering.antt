@@ -1,5 +1,5 @@
 -- What one pattern covers of another, and keys that tell patterns apart.
-use Rattle.std.proofs.Common.{◌≡◌, ℕ, suc, zero, ◌≤◌, Bool, true, false, ◌==◌, ◌&&◌, Option, Some, None, refl, sym, arith, eq-eqb}
+use Rattle.std.proofs.Common.{◌≡◌, ℕ, suc, zero, ◌≤◌, true, false, ◌==◌, ◌&&◌, Option, Some, None, refl, sym, arith, eq-eqb}
 use Rattle.std.proofs.lemmas.Bool.{and_from, and_parts, eqb-true, ne_eqb}
 use Rattle.control_defs.specs.declared.keys.Key.{Key}
 use Rattle.control_defs.specs.declared.patterns.Pattern.{Pattern}

@@ -1,11 +1,11 @@
 -- What edits of a list of patterns keep.
 use Rattle.std.proofs.Common.{◌≡◌, ℕ, ◌+◌, ◌<◌, ◌≤◌, inl, inr, Bool, true, false, not, ◌||◌, List, ◌∷◌, ◌++◌, length, get_or, filter, refl, sym, ap, ◌∙◌, subst, arith}
-use Rattle.std.specs.Prelude.{Some, slice_get, All, AllPairs, Contains}
-use Rattle.std.specs.List.{AllWithin, insert, list_any, position_or_len, remove}
+use Rattle.std.specs.Prelude.{Some, slice_get, All}
+use Rattle.std.specs.List.{insert, list_any, position_or_len, remove}
 use Rattle.std.specs.Ordering.{is_eq, is_lt, ordering_reverse}
 use Rattle.std.specs.declared.cmp.Ordering.{Ordering}
 use Rattle.std.specs.declared.cmp.Ordering.TheVariants.{Less, Equal, Greater}
-use Rattle.std.proofs.lemmas.Bool.{cases_Bool, cases_eq, cases_lt, cond-false, cond-true, false_from_ne_true, not-false, not-true, not_from_false}
+use Rattle.std.proofs.lemmas.Bool.{cases_Bool, cases_eq, cond-false, cond-true, false_from_ne_true, not-false, not-true, not_from_false}
 use Rattle.std.proofs.lemmas.Cmp.{tied_itself}
 use Rattle.std.proofs.lemmas.List.Edits.{length-insert}
 use Rattle.std.proofs.lemmas.List.{length-append}
@@ -60,15 +60,19 @@ untied_all p xs apart k d lt =
 -- what stays beside a pattern that nothing covers is apart from it
 pub beside_apart : (p : Pattern) (xs : List Pattern) → list_any (λ other. pattern_covers other p) xs ≡ false → All (AreApart p) (without_covered p xs)
 beside_apart p xs none k d lt =
-    let ys = without_covered p xs in
-    (not-true (pattern_covers p (get_or ys k d)) (filter_passes (λ other. not (pattern_covers p other)) xs k d lt),
-     All-filter (λ other. not (pattern_covers p other)) (λ x. pattern_covers x p ≡ false) xs (All-from_none (λ other. pattern_covers other p) xs none) k d lt)
+    let ys = without_covered p xs in (
+      not-true (pattern_covers p (get_or ys k d)) (filter_passes (λ other. not (pattern_covers p other)) xs k d lt),
+      All-filter (λ other. not (pattern_covers p other)) (λ x. pattern_covers x p ≡ false) xs (All-from_none (λ other. pattern_covers other p) xs none) k d lt,
+    )
 
 -- a pattern and all that is apart from it
 pub length-placed : (p : Pattern) (xs : List Pattern) → All (AreApart p) xs → length (placed p xs) ≡ length xs + 1
 length-placed p xs apart =
-    omega (arith, length-append (filter (λ other. is_lt (pattern_cmp other p)) xs) (p ∷ filter (λ other. is_lt (pattern_cmp p other)) xs),
-      length_parts (λ other. is_lt (pattern_cmp other p)) (λ other. is_lt (pattern_cmp p other)) xs (untied_all p xs apart))
+    omega (
+      arith,
+      length-append (filter (λ other. is_lt (pattern_cmp other p)) xs) (p ∷ filter (λ other. is_lt (pattern_cmp p other)) xs),
+      length_parts (λ other. is_lt (pattern_cmp other p)) (λ other. is_lt (pattern_cmp p other)) xs (untied_all p xs apart),
+    )
 
 pub with_covered : (p : Pattern) (xs : List Pattern) → list_any (λ other. pattern_covers other p) xs ≡ true → with_pattern p xs ≡ xs
 with_covered p xs h = cond-true _ _ _ h
@@ -85,10 +89,10 @@ length-with_uncovered p xs h = ap length (with_uncovered p xs h) ∙ length-plac
 pub insert_is : (xs : List Pattern) (p : Pattern) (i : ℕ) → IsPlace xs p i → insert xs i p ≡ placed p xs
 insert_is xs p i place =
     let front = filter_front (λ other. is_lt (pattern_cmp other p)) xs i place.within
-          (λ k d low high. ap is_lt (place.below k d low high)) (λ k d low high. ap is_lt (place.above k d low high)) in
+    (λ k d low high. ap is_lt (place.below k d low high)) (λ k d low high. ap is_lt (place.above k d low high)) in
     let back = filter_back (λ other. is_lt (pattern_cmp p other)) xs i place.within
-          (λ k d low high. ap is_lt (less_back (get_or xs k d) p (place.below k d low high)))
-          (λ k d low high. ap is_lt (greater_back (get_or xs k d) p (place.above k d low high))) in
+    (λ k d low high. ap is_lt (less_back (get_or xs k d) p (place.below k d low high)))
+    (λ k d low high. ap is_lt (greater_back (get_or xs k d) p (place.above k d low high))) in
     sym (λ j. front j ++ p ∷ back j)
 
 pub IsPatternList-filter : (test : Pattern → Bool) (xs : List Pattern) → IsPatternList xs → IsPatternList (filter test xs)
@@ -120,29 +124,31 @@ pub remove_is : (xs : List Pattern) (p : Pattern) (i : ℕ) → IsPatternList xs
 remove_is xs p i h within found =
     let at = get_or_from_slice_get xs i p p found in
     sym (filter_remove (λ other. not (is_eq (pattern_cmp other p))) xs i p within
-      (rw (at, tied_itself pattern_cmp_total p) refl)
-      (λ k d low high. ap (λ o. not (is_eq o)) (subst (λ y. pattern_cmp (get_or xs k d) y ≡ Less) (get_or_from_slice_get xs i p d found) (h.rising k i d high within)))
-      (λ k d low high. ap (λ o. not (is_eq o)) (less_back p (get_or xs k d) (subst (λ y. pattern_cmp y (get_or xs k d) ≡ Less) (get_or_from_slice_get xs i p d found) (h.rising i k d (omega arith) high)))))
+    (rw (at, tied_itself pattern_cmp_total p) refl)
+    (λ k d low high. ap (λ o. not (is_eq o)) (subst (λ y. pattern_cmp (get_or xs k d) y ≡ Less) (get_or_from_slice_get xs i p d found) (h.rising k i d high within)))
+    (λ k d low high. ap (λ o. not (is_eq o)) (less_back p (get_or xs k d) (subst (λ y. pattern_cmp y (get_or xs k d) ≡ Less) (get_or_from_slice_get xs i p d found) (h.rising i k d (omega arith) high)))))
 
 -- each pattern that is apart from a rising list has a place in it
 pub place_of : (xs : List Pattern) (p : Pattern) → IsPatternList xs → All (AreApart p) xs → (i : ℕ) × IsPlace xs p i
 place_of xs p h apart =
     let after : Pattern → Bool = λ x. not (is_lt (pattern_cmp x p)) in
-    let i = position_or_len after xs in
-    (i, record {
-      within = prefix_len-le-length (λ x. not (after x)) xs;
-      below = λ k d low high. less_from (pattern_cmp (get_or xs k d) p) (not-false (is_lt (pattern_cmp (get_or xs k d) p)) (fails_before_first after xs k d high));
-      above = λ k d low high.
-          let x = get_or xs i d in
-          let first : pattern_cmp x p ≡ Greater =
-                not_tied (pattern_cmp x p) (not-true (is_lt (pattern_cmp x p)) (passes_at_first after xs d (omega arith))) (apart_untied p x (apart i d (omega arith))) in
-          elim (cases_eq k i) [
-            | inl e ↦ subst (λ j. pattern_cmp (get_or xs j d) p ≡ Greater) (sym e) first
-            | inr n ↦
-                less_back p (get_or xs k d)
-                (pattern_cmp_total.trans p x (get_or xs k d) (greater_back x p first) (h.rising i k d (omega arith) high))
-          ];
-    })
+    let i = position_or_len after xs in (
+      i,
+      record {
+        within = prefix_len-le-length (λ x. not (after x)) xs;
+        below = λ k d low high. less_from (pattern_cmp (get_or xs k d) p) (not-false (is_lt (pattern_cmp (get_or xs k d) p)) (fails_before_first after xs k d high));
+        above = λ k d low high.
+            let x = get_or xs i d in
+            let first : pattern_cmp x p ≡ Greater =
+            not_tied (pattern_cmp x p) (not-true (is_lt (pattern_cmp x p)) (passes_at_first after xs d (omega arith))) (apart_untied p x (apart i d (omega arith))) in
+            elim (cases_eq k i) [
+              | inl e ↦ subst (λ j. pattern_cmp (get_or xs j d) p ≡ Greater) (sym e) first
+              | inr n ↦
+                  less_back p (get_or xs k d)
+                  (pattern_cmp_total.trans p x (get_or xs k d) (greater_back x p first) (h.rising i k d (omega arith) high))
+            ];
+      },
+    )
 
 pub IsPatternList-with : (p : Pattern) (xs : List Pattern) → IsPatternList xs → IsPattern p → length (with_pattern p xs) ≤ 64 → IsPatternList (with_pattern p xs)
 IsPatternList-with p xs h range fits =
@@ -166,7 +172,7 @@ covered_keys p xs key covered =
       | inl e ↦
           let one = Any-from_list_any (λ other. pattern_covers other p) xs covered in
           let some : any_covers xs key ≡ true =
-                list_any_at (λ x. covers x key) xs one.0 one.1 one.2 (rw (one.3) (covers_keys one.1 p key one.4 e)) in
+          list_any_at (λ x. covers x key) xs one.0 one.1 one.2 (rw (one.3) (covers_keys one.1 p key one.4 e)) in
           rw some refl
       | inr e ↦ rw e (sym (or_comm (any_covers xs key) false))
     ]
@@ -180,7 +186,7 @@ beside_keys p xs key =
       | inr e ↦
           rw e
           (any-filter_same (λ x. covers x key) (λ other. not (pattern_covers p other)) true
-            (λ x h. not_from_false (pattern_covers p x) (false_from_ne_true (pattern_covers p x) (λ c. let k = covers_keys p x key c h in cc))) xs
+          (λ x h. not_from_false (pattern_covers p x) (false_from_ne_true (pattern_covers p x) (λ c. let k = covers_keys p x key c h in cc))) xs
           ∙ sym (or_comm (any_covers xs key) false))
     ]
 
@@ -194,7 +200,7 @@ any_covers-with p xs key =
           let front = filter (λ other. is_lt (pattern_cmp other p)) ys in
           let back = filter (λ other. is_lt (pattern_cmp p other)) ys in
           let both = any_parts (λ x. covers x key) (λ other. is_lt (pattern_cmp other p)) (λ other. is_lt (pattern_cmp p other)) ys
-                (untied_all p ys (beside_apart p xs uncovered)) in
+          (untied_all p ys (beside_apart p xs uncovered)) in
           ap (λ l. any_covers l key) (with_uncovered p xs uncovered)
           ∙ list_any-append (λ x. covers x key) front (p ∷ back)
           ∙ or_left_comm (any_covers front key) (covers p key) (any_covers back key)

@@ -1,11 +1,10 @@
 -- The order of patterns, and where a search in a rising list ends.
-use Rattle.std.proofs.Common.{◌≡◌, ℕ, rules, ◌+◌, ◌<◌, ◌≤◌, inl, inr, Bool, true, false, List, length, get_or, refl, sym, ap, ◌∙◌, subst, arith}
+use Rattle.std.proofs.Common.{◌≡◌, ℕ, rules, ◌+◌, inl, inr, List, length, get_or, refl, sym, ap, ◌∙◌, subst, arith}
 use Rattle.std.specs.Prelude.{Result, Ok, Err, Some, slice_get, IsOk, IfOk, IfErr, AllPairs, ◌↔◌, Contains}
 use Rattle.std.specs.Cmp.{IsTotalOrder}
-use Rattle.std.specs.List.{AllWithin, HoldsAt}
+use Rattle.std.specs.List.{HoldsAt}
 use Rattle.std.specs.List.Sorted.{IsBinarySearchResult, IsSearchInRange, IsNonDecreasingBy}
-use Rattle.std.specs.Ordering.{is_lt, nat_cmp, ordering_index, ordering_reverse}
-use Rattle.std.specs.declared.cmp.Ordering.{Ordering}
+use Rattle.std.specs.Ordering.{is_lt, ordering_index, ordering_reverse}
 use Rattle.std.specs.declared.cmp.Ordering.TheVariants.{Less, Equal, Greater}
 use Rattle.std.proofs.Math.Path.{fun_ext}
 use Rattle.std.proofs.lemmas.Option.{get_or_from_slice_get, slice_get-get_or}
@@ -94,8 +93,8 @@ pub search_ends : (xs ys : List Pattern) (p : Pattern) (r : Result ℕ ℕ) → 
     → IfOk r (λ i. slice_get xs i ≡ Some p) × IfErr r (IsPlace xs p) × (IsOk r ↔ Contains xs p)
 search_ends xs ys p r same up bound tied found =
     let moved =
-          subst (λ l. IsSearchInRange r (length l) × IfOk r (HoldsAt (λ y. ghosts.cmp y p ≡ Equal) l) × IsBinarySearchResult (λ y. ghosts.cmp y p) l r)
-          same (bound, tied, found) in
+    subst (λ l. IsSearchInRange r (length l) × IfOk r (HoldsAt (λ y. ghosts.cmp y p ≡ Equal) l) × IsBinarySearchResult (λ y. ghosts.cmp y p) l r)
+    same (bound, tied, found) in
     let at = found_place xs p r moved.0 moved.1 in
     let place = absent_place xs p up r moved.0 moved.2 in
     (at, place, found_stands r xs p moved.0 at place)

@@ -1,8 +1,7 @@
 -- Small worked inputs, which the definitions compute.
-use Rattle.std.proofs.Common.{◌≡◌, true, false, Some, None, List, [], ◌∷◌, refl}
+use Rattle.std.proofs.Common.{◌≡◌, true, false, Some, None, [], ◌∷◌, refl}
 use Rattle.std.specs.declared.cmp.Ordering.TheVariants.{Less, Equal, Greater}
 use Rattle.control_defs.specs.declared.keys.Key.{Key}
-use Rattle.control_defs.specs.declared.patterns.Pattern.{Pattern}
 use Rattle.control_defs.specs.declared.patterns.Pattern.TheVariants.{Every, App, Service, Kind}
 use Rattle.control_defs.specs.Lists.{pattern_cmp, with_pattern, without_pattern}
 use Rattle.control_defs.specs.Patterns.{any_covers, covers}

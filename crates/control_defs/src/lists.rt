@@ -17,8 +17,9 @@ pub struct Limit;
 #[derive(Clone, Copy, Debug, PartialEq, Eq)]
 pub struct Absent;
 
-/// At most 64 patterns, rising in the order of patterns. None covers another.
-#[derive(Drop)]
+/// What is forwarded, or what a store stores (ECSS-E-ST-70-41C, 6.14 and 6.15): at most 64 patterns, rising
+/// in the order of patterns. None covers another.
+#[derive(Clone, Drop)]
 pub struct Patterns {
     items: ArrayVec<Pattern, 64>,
 }

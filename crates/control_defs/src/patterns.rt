@@ -42,12 +42,17 @@ impl Pattern {
     {
         match (*self, *other) {
             (Pattern::Every, _) => true,
-            (Pattern::App(apid), Pattern::App(inner) | Pattern::Service(inner, _) | Pattern::Kind(inner, _, _)) => {
-                apid == inner
-            }
-            (Pattern::Service(apid, service), Pattern::Service(inner, part) | Pattern::Kind(inner, part, _)) => {
-                apid == inner && service == part
-            }
+            (
+                Pattern::App(apid),
+                Pattern::App(other_apid)
+                | Pattern::Service(other_apid, _)
+                | Pattern::Kind(other_apid, _, _),
+            ) => { apid == other_apid }
+            (
+                Pattern::Service(apid, service),
+                Pattern::Service(other_apid, other_service)
+                | Pattern::Kind(other_apid, other_service, _),
+            ) => { apid == other_apid && service == other_service }
             (Pattern::Kind(..), Pattern::Kind(..)) => self == other,
             _ => false,
         }

@@ -1,5 +1,7 @@
 // Patterns over keys, and lists of patterns.
 
+ghost use Rattle.control_defs.specs.Patterns.{IsPattern};
+
 use super::*;
 
 #[test]
@@ -34,13 +36,120 @@ fn patterns_cover_keys(rt: HostRuntime) {
     assert!(rt; Pattern::Service(7, 3) < Pattern::Service(7, 4));
 }
 
-// The list of these patterns, added in turn.
-fn list_of(patterns: &[Pattern]) -> Patterns
-    requires { All IsPattern patterns.now }
+// The two patterns, added in turn, leave this list.
+fn pair_leaves(first: Pattern, second: Pattern, expected: &[Pattern]) -> bool
+    requires first { IsPattern first }
+    requires second { IsPattern second }
 {
-    let mut list = Patterns::new();
-    for pattern in patterns {
-        let _ = list.add(*pattern);
+    let mut patterns = Patterns::new();
+    patterns.add(first).is_ok() && patterns.add(second).is_ok() && patterns.list() == expected
+}
+
+#[test]
+fn the_wider_of_two_patterns_stays(rt: HostRuntime) {
+    let every = Pattern::Every;
+    let app = Pattern::App(100);
+    let service = Pattern::Service(100, 3);
+    let kind = Pattern::Kind(100, 3, 25);
+    assert!(rt; pair_leaves(every, every, &[every]));
+    assert!(rt; pair_leaves(every, app, &[every]));
+    assert!(rt; pair_leaves(app, every, &[every]));
+    assert!(rt; pair_leaves(kind, every, &[every]));
+    assert!(rt; pair_leaves(app, app, &[app]));
+    assert!(rt; pair_leaves(app, service, &[app]));
+    assert!(rt; pair_leaves(service, app, &[app]));
+    assert!(rt; pair_leaves(kind, app, &[app]));
+    assert!(rt; pair_leaves(service, service, &[service]));
+    assert!(rt; pair_leaves(service, kind, &[service]));
+    assert!(rt; pair_leaves(kind, service, &[service]));
+    assert!(rt; pair_leaves(kind, kind, &[kind]));
+}
+
+#[test]
+fn patterns_that_are_apart_stand_in_order(rt: HostRuntime) {
+    let app = Pattern::App(100);
+    let service = Pattern::Service(100, 3);
+    let kind = Pattern::Kind(100, 3, 25);
+    assert!(rt;
+        pair_leaves(
+            Pattern::App(2047),
+            Pattern::App(0),
+            &[Pattern::App(0), Pattern::App(2047)]
+        )
+    );
+    assert!(rt; pair_leaves(Pattern::Service(0, 0), app, &[app, Pattern::Service(0, 0)]));
+    assert!(rt; pair_leaves(Pattern::Kind(0, 0, 0), app, &[app, Pattern::Kind(0, 0, 0)]));
+    assert!(rt;
+        pair_leaves(
+            Pattern::Service(100, 255),
+            service,
+            &[service, Pattern::Service(100, 255)]
+        )
+    );
+    assert!(rt;
+        pair_leaves(
+            Pattern::Kind(100, 0, 25),
+            service,
+            &[service, Pattern::Kind(100, 0, 25)]
+        )
+    );
+    assert!(rt;
+        pair_leaves(
+            Pattern::Kind(100, 3, 255),
+            kind,
+            &[kind, Pattern::Kind(100, 3, 255)]
+        )
+    );
+}
+
+#[test]
+fn sixty_five_patterns_do_not_stand(rt: HostRuntime) {
+    let mut patterns = Patterns::new();
+    for service in 0..64 {
+        assert!(rt; patterns.add(Pattern::Kind(2047, service, 255)) == Ok(()));
     }
-    list
+    assert!(rt; patterns.add(Pattern::App(0)) == Err(Limit));
+    assert!(rt; patterns.add(Pattern::Kind(2047, 64, 255)) == Err(Limit));
+    assert!(rt; patterns.list().len() == 64);
+    assert!(rt; patterns.list().first() == Some(&Pattern::Kind(2047, 0, 255)));
+    assert!(rt; patterns.add(Pattern::Kind(2047, 5, 255)) == Ok(()));
+    assert!(rt; patterns.add(Pattern::Service(2047, 63)) == Ok(()));
+    assert!(rt; patterns.list().len() == 64);
+    assert!(rt; patterns.list().first() == Some(&Pattern::Service(2047, 63)));
+    assert!(rt; patterns.list().last() == Some(&Pattern::Kind(2047, 62, 255)));
+    assert!(rt; patterns.add(Pattern::App(2047)) == Ok(()));
+    assert!(rt; patterns.list() == [Pattern::App(2047)].as_slice());
+}
+
+#[test]
+fn only_the_pattern_itself_is_removed(rt: HostRuntime) {
+    let mut patterns = Patterns::new();
+    let kept = [
+        Pattern::App(7),
+        Pattern::Service(100, 3),
+        Pattern::Kind(200, 3, 25),
+    ];
+    assert!(rt; patterns.add(Pattern::Kind(200, 3, 25)) == Ok(()));
+    assert!(rt; patterns.add(Pattern::Service(100, 3)) == Ok(()));
+    assert!(rt; patterns.add(Pattern::App(7)) == Ok(()));
+    assert!(rt; patterns.remove(Pattern::Every) == Err(Absent));
+    assert!(rt; patterns.remove(Pattern::App(100)) == Err(Absent));
+    assert!(rt; patterns.remove(Pattern::Kind(100, 3, 25)) == Err(Absent));
+    assert!(rt; patterns.list() == kept.as_slice());
+    assert!(rt;
+        patterns.covers(&Key {
+            apid: 100,
+            kind: Some((3, 255))
+        })
+    );
+    let copy = patterns.clone().unwrap();
+    assert!(rt; patterns.remove(Pattern::Service(100, 3)) == Ok(()));
+    assert!(rt; copy.list() == kept.as_slice());
+    assert!(rt;
+        !patterns.covers(&Key {
+            apid: 100,
+            kind: Some((3, 255))
+        })
+    );
+    assert!(rt; patterns.list() == [Pattern::App(7), Pattern::Kind(200, 3, 25)].as_slice());
 }
