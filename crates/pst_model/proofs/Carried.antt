@@ -46,7 +46,7 @@ carry_out-append number (item ∷ xs) ys table = by (instruct item table) (carry
 -- what a change of one store keeps
 module _ (P : Table → Type 0) (identifier : ℕ) (table : Table) (change : Store → Result Store ℕ)
     (keeps : (store : Store) → find (is_named identifier) table.stores ≡ Some store
-        → IfOk (change store) (λ next. P (record table { stores = at_first (is_named identifier) (λ _. next) table.stores }))) where
+    → IfOk (change store) (λ next. P (record table { stores = at_first (is_named identifier) (λ _. next) table.stores }))) where
   with_kept : (outcome : Result Store ℕ) → IfOk outcome (λ next. P (record table { stores = at_first (is_named identifier) (λ _. next) table.stores })) → IfOk (with_changed identifier table outcome) P
   with_kept (Ok next) kept = kept
   with_kept (Err code) kept = kept

@@ -1,12 +1,12 @@
 -- Each report raises the count of reports by one.
-use Rattle.std.proofs.Common.{◌≡◌, ◌<◌, ℕ, ◌+◌, ◌%◌, Bool, true, false, List, [], ◌∷◌, ◌++◌, Option, Some, None, length, refl, sym, ◌∙◌, ap, arith}
+use Rattle.std.proofs.Common.{◌≡◌, ◌<◌, ℕ, ◌+◌, List, [], ◌∷◌, ◌++◌, Option, Some, None, length, refl, sym, ◌∙◌, ap, arith}
 use Rattle.std.proofs.lemmas.Bool.{cond_both}
 use Rattle.std.proofs.lemmas.List.Sums.{sum_by-cons}
-use Rattle.std.specs.Prelude.{find, map, max, ◌==◌, if◌then◌else◌}
+use Rattle.std.specs.Prelude.{find, ◌==◌, if◌then◌else◌}
 use Rattle.space_packet.specs.Packet.{apid_of}
-use Rattle.pus_header.specs.Commands.{acks_of, subtype_of}
+use Rattle.pus_header.specs.Commands.{acks_of, service_of, subtype_of}
 use Rattle.pst_model.specs.declared.verdicts.Verdict.{Verdict}
-use Rattle.pst_model.specs.Answers.{answer_by, answer_carried, carry_out, data_in, on_request, refusal_of, replied, replies_from, reply, verdicts_of}
+use Rattle.pst_model.specs.Answers.{answer_by, carry_out, data_in, on_request, refusal_of, replied, replies_from, reply, verdicts_of}
 use Rattle.pst_model.specs.Command.{Command, Arrival, Request, Grant}
 use Rattle.pst_model.specs.Laws.{is_reply, replies_in}
 use Rattle.pst_model.specs.Reports.{Report, count_behind}
@@ -54,9 +54,9 @@ replied_counted number moment count table reports is =
 answer_counted : (number moment : ℕ) (packet : List ℕ) (table : Table) (refusal : Option Verdict) → IsCounted table.reports (answer_by number moment packet table refusal)
 answer_counted number moment packet table (Some verdict) = replied_counted number moment table.reports table (on_request packet (verdict ∷ [])) refl
 answer_counted number moment packet table None =
-    let carried = carry_out (items_in (subtype_of packet) (data_in packet)) table in
+    let carried = carry_out (items_in (service_of packet) (subtype_of packet) (data_in packet)) table in
     replied_counted number moment table.reports carried.table (on_request packet (verdicts_of (acks_of packet) carried.failures))
-    (carry_keeps (λ (next : Table). next.reports ≡ table.reports) (instruct_reports table.reports) 1 (items_in (subtype_of packet) (data_in packet)) table refl)
+    (carry_keeps (λ (next : Table). next.reports ≡ table.reports) (instruct_reports table.reports) 1 (items_in (service_of packet) (subtype_of packet) (data_in packet)) table refl)
 
 arrive_counted : (number moment : ℕ) (packet : List ℕ) (table : Table) → table.reports < 16384 → IsCounted table.reports (arrive number moment packet table)
 arrive_counted number moment packet table small =

@@ -3,9 +3,12 @@ pub mod Answers
 pub mod Command
 pub mod Forms
 pub mod Instructions
+pub mod Items
 pub mod Laws
+pub mod Layouts
 pub mod Least
 pub mod Output
+pub mod PatternOctets
 pub mod ReadBack
 pub mod Reports
 pub mod Requests
