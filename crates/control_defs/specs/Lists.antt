@@ -84,3 +84,7 @@ with_pattern pattern patterns =
 -- a list without a pattern itself
 abbrev pub without_pattern : Pattern → List Pattern → List Pattern
 without_pattern pattern patterns = filter (λ other. not (is_eq (pattern_cmp other pattern))) patterns
+
+-- whether a pattern itself stands in a list
+abbrev pub is_standing : Pattern → List Pattern → Bool
+is_standing pattern patterns = list_any (λ other. is_eq (pattern_cmp other pattern)) patterns

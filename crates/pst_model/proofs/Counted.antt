@@ -4,7 +4,7 @@ use Rattle.std.proofs.lemmas.Bool.{cond_both}
 use Rattle.std.proofs.lemmas.List.Sums.{sum_by-cons}
 use Rattle.std.specs.Prelude.{find, ◌==◌, if◌then◌else◌}
 use Rattle.space_packet.specs.Packet.{apid_of}
-use Rattle.pus_header.specs.Commands.{subtype_of}
+use Rattle.pus_header.specs.Commands.{service_of, subtype_of}
 use Rattle.pst_model.specs.declared.verdicts.Verdict.{Verdict}
 use Rattle.pst_model.specs.Answers.{answer_by, carry_out, data_in, on_request, refusal_of, replied, replies_from, reply, reports_on}
 use Rattle.pst_model.specs.Command.{Command, Arrival, Request, Grant}
@@ -54,10 +54,10 @@ replied_counted number moment count table reports is =
 answer_counted : (number moment : ℕ) (packet : List ℕ) (table : Table) (refusal : Option Verdict) → IsCounted table.reports (answer_by number moment packet table refusal)
 answer_counted number moment packet table (Some verdict) = replied_counted number moment table.reports table (on_request packet (verdict ∷ [])) refl
 answer_counted number moment packet table None =
-    let items = items_in (subtype_of packet) (data_in packet) in
+    let items = items_in (service_of packet) (subtype_of packet) (data_in packet) in
     let carried = carry_out items table in
     replied_counted number moment table.reports carried.table (reports_on packet items carried)
-    (carry_keeps (λ (next : Table). next.reports ≡ table.reports) (instruct_reports table.reports) 1 (items_in (subtype_of packet) (data_in packet)) table refl)
+    (carry_keeps (λ (next : Table). next.reports ≡ table.reports) (instruct_reports table.reports) 1 (items_in (service_of packet) (subtype_of packet) (data_in packet)) table refl)
 
 arrive_counted : (number moment : ℕ) (packet : List ℕ) (table : Table) → table.reports < 16384 → IsCounted table.reports (arrive number moment packet table)
 arrive_counted number moment packet table small =

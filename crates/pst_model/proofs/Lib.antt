@@ -1,8 +1,13 @@
 mod AnswerRows
 pub mod Carried
 pub mod Counted
+pub mod ItemOctets
+mod ItemRows
 pub mod Joined
+pub mod KindsRead
+pub mod KindsWritten
 pub mod Leasts
+pub mod PatternItems
 pub mod Puts
 mod ReportRows
 pub mod RequestItems
@@ -12,6 +17,7 @@ pub mod SpelledRequests
 mod TableRows
 mod TextRows
 pub mod Texts
+pub mod WholeRequests
 pub mod Withins
 pub mod WrittenForms
 pub mod WrittenRequests

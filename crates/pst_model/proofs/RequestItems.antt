@@ -1,166 +1,95 @@
--- Items of requests: an instruction and its octets, and lists of them.
-use Rattle.std.proofs.Common.{◌≡◌, ℕ, zero, suc, ◌+◌, ◌*◌, ◌/◌, ◌%◌, ◌<◌, ◌≤◌, ◌==◌, Bool, true, false, ◌||◌, List, [], ◌∷◌, ◌++◌, length, take, drop, get_or, Some, refl, sym, ◌∙◌, ap, arith, append_assoc, length-append, length-drop}
-use Rattle.std.proofs.lemmas.Bool.{eqb-true}
+-- Lists of items of one kind: the instructions that octets spell, and the octets of instructions.
+use Rattle.std.proofs.Common.{◌≡◌, ℕ, zero, suc, ◌+◌, ◌*◌, ◌<◌, ◌≤◌, not, List, [], ◌∷◌, ◌++◌, length, take, drop, get_or, refl, sym, ◌∙◌, ap, arith, append_assoc, length-append, length-drop, subst}
 use Rattle.std.proofs.lemmas.List.{append-nil, drop_at, drop-drop, nil_from_length, take_more, take-append-drop}
 use Rattle.std.proofs.lemmas.List.Elements.{All-cons, All-drop, All-head, All-nil, All-tail}
-use Rattle.std.proofs.lemmas.Option.{slice_get-get_or}
-use Rattle.std.specs.Prelude.{All, if◌then◌else◌, slice_get, slice_index}
-use Rattle.byteorder.specs.Numbers.{big_number-reads_back}
-use Rattle.octet_fields.specs.Fields.{big_bytes, field}
+use Rattle.std.specs.Prelude.{All}
 use Rattle.control_defs.specs.declared.instructions.Instruction.{Instruction}
-use Rattle.control_defs.specs.declared.instructions.Instruction.TheVariants.{Enable, Disable, Resume, Suspend}
-use Rattle.pst_model.specs.Requests.{HasStore, instruction_in, is_known, item_of, items_from, items_in, items_octets, subtype_asked}
+use Rattle.control_defs.specs.Instructions.{IsInstruction}
+use Rattle.pst_model.specs.Items.{HasOctets, is_alone, item_of, kind_asked}
+use Rattle.pst_model.specs.Layouts.{RequestKind, width_of}
+use Rattle.pst_model.specs.Requests.{items_from, items_octets}
+use Rattle.pst_model.proofs.ItemOctets.{AreOctets}
+use Rattle.pst_model.proofs.KindsRead.{IsReader, IsRight}
+use Rattle.pst_model.proofs.KindsWritten.{IsOf}
 
--- octets, each below 256
-abbrev pub AreOctets : List ℕ → Type 0
-AreOctets octets = All (λ (octet : ℕ). octet < 256) octets
+-- A lawful instruction for which requests of this kind ask.
+pub record IsAskedBy (kind : RequestKind) (item : Instruction) : Type 0 where
+  pub asked : kind_asked item ≡ (kind.service, kind.subtype)
+  pub lone : is_alone item ≡ not kind.is_list
+  pub lawful : IsInstruction item
+  pub fits : HasOctets item
 
--- instructions of one subtype
-abbrev pub AreOfKind : (subtype : ℕ) → List Instruction → Type 0
-AreOfKind subtype items = All (λ (item : Instruction). subtype_asked item ≡ Some subtype) items
-
--- One instruction, by the tests for three of the four kinds.
-
-abbrev instruction_by : (enable disable resume : Bool) → (store : ℕ) → Instruction
-instruction_by enable disable resume store = if enable then Enable store else if disable then Disable store else if resume then Resume store else Suspend store
-
-item_of-by : (enable disable resume : Bool) (store : ℕ) → item_of (instruction_by enable disable resume store) ≡ big_bytes 2 store
-item_of-by true disable resume store = refl
-item_of-by false true resume store = refl
-item_of-by false false true store = refl
-item_of-by false false false store = refl
-
-HasStore-by : (enable disable resume : Bool) (store : ℕ) → store < 65536 → HasStore (instruction_by enable disable resume store)
-HasStore-by true disable resume store fits = fits
-HasStore-by false true resume store fits = fits
-HasStore-by false false true store fits = fits
-HasStore-by false false false store fits = fits
-
-asked-by : (enable disable resume suspend : Bool) (subtype store : ℕ) → (subtype == 1) ≡ enable → (subtype == 2) ≡ disable → (subtype == 15) ≡ resume → (subtype == 16) ≡ suspend
-    → (enable || disable || resume || suspend) ≡ true → subtype_asked (instruction_by enable disable resume store) ≡ Some subtype
-asked-by true disable resume suspend subtype store a b c d known = ap Some (sym (eqb-true subtype 1 a))
-asked-by false true resume suspend subtype store a b c d known = ap Some (sym (eqb-true subtype 2 b))
-asked-by false false true suspend subtype store a b c d known = ap Some (sym (eqb-true subtype 15 c))
-asked-by false false false true subtype store a b c d known = ap Some (sym (eqb-true subtype 16 d))
-asked-by false false false false subtype store a b c d known = absurd cc
-
--- two octets are those of their number
-
-pair_of : (number first second : ℕ) → number ≡ first * 256 + second → first < 256 → second < 256 → big_bytes 2 number ≡ first ∷ second ∷ []
-pair_of number first second is a b =
-    let high : number / 256 % 256 ≡ first = omega arith in
-    let low : number % 256 ≡ second = omega arith in
-    rw (high, low) refl
-
-big_bytes-field : (first second : ℕ) (rest : List ℕ) → first < 256 → second < 256 → big_bytes 2 (field 2 0 (first ∷ second ∷ rest)) ≡ first ∷ second ∷ []
-big_bytes-field first second rest a b = pair_of (field 2 0 (first ∷ second ∷ rest)) first second (omega arith) a b
-
-field-fits : (octets : List ℕ) → AreOctets octets → 2 ≤ length octets → field 2 0 octets < 65536
-field-fits octets fit long = let first = fit 0 0 (omega arith) in let second = fit 1 0 (omega arith) in omega arith
-
--- what one item of a request spells
-
-item_of-instruction_in : (subtype : ℕ) (item : List ℕ) → item_of (instruction_in subtype item) ≡ big_bytes 2 (field 2 0 item)
-item_of-instruction_in subtype item = item_of-by (subtype == 1) (subtype == 2) (subtype == 15) (field 2 0 item)
-
-HasStore-instruction_in : (subtype : ℕ) (item : List ℕ) → AreOctets item → 2 ≤ length item → HasStore (instruction_in subtype item)
-HasStore-instruction_in subtype item fit long = HasStore-by (subtype == 1) (subtype == 2) (subtype == 15) (field 2 0 item) (field-fits item fit long)
-
-subtype_asked-instruction_in : (subtype : ℕ) (item : List ℕ) → is_known subtype ≡ true → subtype_asked (instruction_in subtype item) ≡ Some subtype
-subtype_asked-instruction_in subtype item known =
-    asked-by (subtype == 1) (subtype == 2) (subtype == 15) (subtype == 16) subtype (field 2 0 item) refl refl refl refl known
-
--- and the other way round: an instruction of a known kind is what its octets spell
-
-instruction_in-item_of : (subtype : ℕ) (item : Instruction) (rest : List ℕ) → subtype_asked item ≡ Some subtype → HasStore item → instruction_in subtype (item_of item ++ rest) ≡ item
-instruction_in-item_of subtype (Enable store) rest asked fits =
-    let kind : subtype ≡ 1 = cc in ap (λ (s : ℕ). instruction_in s (big_bytes 2 store ++ rest)) kind ∙ ap Enable (big_number-reads_back 2 store rest fits)
-instruction_in-item_of subtype (Disable store) rest asked fits =
-    let kind : subtype ≡ 2 = cc in ap (λ (s : ℕ). instruction_in s (big_bytes 2 store ++ rest)) kind ∙ ap Disable (big_number-reads_back 2 store rest fits)
-instruction_in-item_of subtype (Resume store) rest asked fits =
-    let kind : subtype ≡ 15 = cc in ap (λ (s : ℕ). instruction_in s (big_bytes 2 store ++ rest)) kind ∙ ap Resume (big_number-reads_back 2 store rest fits)
-instruction_in-item_of subtype (Suspend store) rest asked fits =
-    let kind : subtype ≡ 16 = cc in ap (λ (s : ℕ). instruction_in s (big_bytes 2 store ++ rest)) kind ∙ ap Suspend (big_number-reads_back 2 store rest fits)
-instruction_in-item_of subtype _ rest asked fits = absurd cc
-
-length-item_of : (subtype : ℕ) (item : Instruction) → subtype_asked item ≡ Some subtype → length (item_of item) ≡ 2
-length-item_of subtype (Enable store) asked = refl
-length-item_of subtype (Disable store) asked = refl
-length-item_of subtype (Resume store) asked = refl
-length-item_of subtype (Suspend store) asked = refl
-length-item_of subtype _ asked = absurd cc
-
-known-asked : (subtype : ℕ) (item : Instruction) → subtype_asked item ≡ Some subtype → is_known subtype ≡ true
-known-asked subtype (Enable store) asked = let kind : subtype ≡ 1 = cc in ap is_known kind
-known-asked subtype (Disable store) asked = let kind : subtype ≡ 2 = cc in ap is_known kind
-known-asked subtype (Resume store) asked = let kind : subtype ≡ 15 = cc in ap is_known kind
-known-asked subtype (Suspend store) asked = let kind : subtype ≡ 16 = cc in ap is_known kind
-known-asked subtype _ asked = absurd cc
+-- none of the octets of so many items is wrong
+abbrev pub AreRight : RequestKind → (count : ℕ) → List ℕ → Type 0
+AreRight kind zero octets = Unit {0}
+AreRight kind (suc count) octets = IsRight kind.fields octets × AreRight kind count (drop (width_of kind.fields) octets)
 
 -- Lists of items that are read.
 
-pub length-items_from : (subtype count : ℕ) (octets : List ℕ) → length (items_from subtype count octets) ≡ count
-length-items_from subtype zero octets = refl
-length-items_from subtype (suc count) octets = ap suc (length-items_from subtype count (drop 2 octets))
+pub length-items_from : (kind : RequestKind) (count : ℕ) (octets : List ℕ) → length (items_from kind count octets) ≡ count
+length-items_from kind zero octets = refl
+length-items_from kind (suc count) octets = ap suc (length-items_from kind count (drop (width_of kind.fields) octets))
 
-pub get_or-items_from : (subtype count at : ℕ) (octets : List ℕ) (d : Instruction) → at < count → get_or (items_from subtype count octets) at d ≡ instruction_in subtype (drop (2 * at) octets)
-get_or-items_from subtype zero at octets d within = absurd (omega arith)
-get_or-items_from subtype (suc count) zero octets d within = refl
-get_or-items_from subtype (suc count) (suc at) octets d within =
-    let places : 2 + 2 * at ≡ 2 * suc at = omega arith in
-    get_or-items_from subtype count at (drop 2 octets) d (omega arith) ∙ ap (instruction_in subtype) (drop-drop (2 * at) 2 octets ∙ ap (λ (n : ℕ). drop n octets) places)
+pub get_or-items_from : (kind : RequestKind) (count at : ℕ) (octets : List ℕ) (d : Instruction) → at < count
+    → get_or (items_from kind count octets) at d ≡ kind.spelled (drop (at * width_of kind.fields) octets)
+get_or-items_from kind zero at octets d within = absurd (omega arith)
+get_or-items_from kind (suc count) zero octets d within = let none : 0 * width_of kind.fields ≡ 0 = omega arith in rw none refl
+get_or-items_from kind (suc count) (suc at) octets d within =
+    let width = width_of kind.fields in
+    let places : width + at * width ≡ suc at * width = omega arith in
+    get_or-items_from kind count at (drop width octets) d (omega arith)
+    ∙ ap kind.spelled (drop-drop (at * width) width octets ∙ ap (λ (n : ℕ). drop n octets) places)
 
-pub slice_get-items_in : (subtype at : ℕ) (body : List ℕ) → at < slice_index body 0 → slice_get (items_in subtype body) at ≡ Some (instruction_in subtype (drop (1 + 2 * at) body))
-slice_get-items_in subtype at body within =
-    let item : Instruction = instruction_in subtype (drop (1 + 2 * at) body) in
-    slice_get-get_or (items_in subtype body) at item (omega (arith, length-items_from subtype (slice_index body 0) (drop 1 body)))
-    ∙ ap Some (get_or-items_from subtype (slice_index body 0) at (drop 1 body) item within ∙ ap (instruction_in subtype) (drop-drop (2 * at) 1 body))
+module _ (kind : RequestKind) (reader : IsReader kind) where
+  pub items_octets-items_from : (count : ℕ) (octets : List ℕ) → AreOctets octets → length octets ≡ count * width_of kind.fields → AreRight kind count octets
+      → items_octets (items_from kind count octets) ≡ octets
+  items_octets-items_from zero octets fit long right = sym (nil_from_length octets (omega arith))
+  items_octets-items_from (suc count) octets fit long right =
+      let width = width_of kind.fields in
+      let item = reader octets fit (omega arith) right.0 in
+      ap (λ (l : List ℕ). item_of (kind.spelled octets) ++ l)
+      (items_octets-items_from count (drop width octets) (All-drop (λ (octet : ℕ). octet < 256) width octets fit) (omega (arith, length-drop width octets)) right.1)
+      ∙ sym item.octets_are
 
-pub items_octets-items_from : (subtype count : ℕ) (octets : List ℕ) → AreOctets octets → length octets ≡ 2 * count → items_octets (items_from subtype count octets) ≡ octets
-items_octets-items_from subtype zero octets fit long = sym (nil_from_length octets (omega arith))
-items_octets-items_from subtype (suc count) [] fit long = absurd (omega arith)
-items_octets-items_from subtype (suc count) (first ∷ []) fit long = absurd (omega arith)
-items_octets-items_from subtype (suc count) (first ∷ second ∷ rest) fit long =
-    let item : item_of (instruction_in subtype (first ∷ second ∷ rest)) ≡ first ∷ second ∷ [] =
-    item_of-instruction_in subtype (first ∷ second ∷ rest) ∙ big_bytes-field first second rest (fit 0 0 (omega arith)) (fit 1 0 (omega arith)) in
-    let others : items_octets (items_from subtype count rest) ≡ rest =
-    items_octets-items_from subtype count rest (All-drop (λ (octet : ℕ). octet < 256) 2 (first ∷ second ∷ rest) fit) (omega arith) in
-    ap (λ (l : List ℕ). l ++ items_octets (items_from subtype count rest)) item ∙ ap (λ (l : List ℕ). first ∷ second ∷ l) others
-
-pub AreOfKind-items_from : (subtype count : ℕ) (octets : List ℕ) → is_known subtype ≡ true → AreOfKind subtype (items_from subtype count octets)
-AreOfKind-items_from subtype zero octets known = All-nil (λ (item : Instruction). subtype_asked item ≡ Some subtype)
-AreOfKind-items_from subtype (suc count) octets known =
-    All-cons (λ (item : Instruction). subtype_asked item ≡ Some subtype) (instruction_in subtype octets) (items_from subtype count (drop 2 octets))
-    (subtype_asked-instruction_in subtype octets known) (AreOfKind-items_from subtype count (drop 2 octets) known)
-
-pub HasStore-items_from : (subtype count : ℕ) (octets : List ℕ) → AreOctets octets → length octets ≡ 2 * count → All HasStore (items_from subtype count octets)
-HasStore-items_from subtype zero octets fit long = All-nil HasStore
-HasStore-items_from subtype (suc count) octets fit long =
-    All-cons HasStore (instruction_in subtype octets) (items_from subtype count (drop 2 octets)) (HasStore-instruction_in subtype octets fit (omega arith))
-    (HasStore-items_from subtype count (drop 2 octets) (All-drop (λ (octet : ℕ). octet < 256) 2 octets fit) (length-drop 2 octets ∙ omega arith))
+  pub IsAskedBy-items_from : (count : ℕ) (octets : List ℕ) → AreOctets octets → length octets ≡ count * width_of kind.fields → AreRight kind count octets
+      → All (IsAskedBy kind) (items_from kind count octets)
+  IsAskedBy-items_from zero octets fit long right = All-nil (IsAskedBy kind)
+  IsAskedBy-items_from (suc count) octets fit long right =
+      let width = width_of kind.fields in
+      let item = reader octets fit (omega arith) right.0 in
+      All-cons (IsAskedBy kind) (kind.spelled octets) (items_from kind count (drop width octets))
+      (record { asked = item.asked; lone = item.lone; lawful = item.lawful; fits = item.fits })
+      (IsAskedBy-items_from count (drop width octets) (All-drop (λ (octet : ℕ). octet < 256) width octets fit) (omega (arith, length-drop width octets)) right.1)
 
 -- Lists of items that are written.
 
-pub known-items : (subtype : ℕ) (items : List Instruction) → AreOfKind subtype items → 1 ≤ length items → is_known subtype ≡ true
-known-items subtype [] kind some = absurd (omega arith)
-known-items subtype (item ∷ items) kind some = known-asked subtype item (All-head (λ (item : Instruction). subtype_asked item ≡ Some subtype) item items kind)
+module _ (kind : RequestKind) where
+  pub length-items_octets : (items : List Instruction) → All (IsOf kind) items → length (items_octets items) ≡ length items * width_of kind.fields
+  length-items_octets [] are = omega arith
+  length-items_octets (item ∷ items) are =
+      let one = (All-head (IsOf kind) item items are).long in
+      let others = length-items_octets items (All-tail (IsOf kind) item items are) in
+      omega (arith, one, others, length-append (item_of item) (items_octets items))
 
-pub length-items_octets : (subtype : ℕ) (items : List Instruction) → AreOfKind subtype items → length (items_octets items) ≡ 2 * length items
-length-items_octets subtype [] kind = refl
-length-items_octets subtype (item ∷ items) kind =
-    let one = length-item_of subtype item (All-head (λ (item : Instruction). subtype_asked item ≡ Some subtype) item items kind) in
-    let others = length-items_octets subtype items (All-tail (λ (item : Instruction). subtype_asked item ≡ Some subtype) item items kind) in
-    omega (arith, one, others, length-append (item_of item) (items_octets items))
+  pub items_from-items_octets : (items : List Instruction) → All (IsOf kind) items → items_from kind (length items) (items_octets items) ≡ items
+  items_from-items_octets [] are = refl
+  items_from-items_octets (item ∷ items) are =
+      let one = All-head (IsOf kind) item items are in
+      let width = width_of kind.fields in
+      let behind : drop width (item_of item ++ items_octets items) ≡ items_octets items = drop_at (item_of item) (items_octets items) width one.long in
+      ap (λ (first : Instruction). first ∷ items_from kind (length items) (drop width (item_of item ++ items_octets items))) (one.back (items_octets items))
+      ∙ ap (λ (l : List ℕ). item ∷ items_from kind (length items) l) behind
+      ∙ ap (λ (l : List Instruction). item ∷ l) (items_from-items_octets items (All-tail (IsOf kind) item items are))
 
-pub items_from-items_octets : (subtype : ℕ) (items : List Instruction) → AreOfKind subtype items → All HasStore items → items_from subtype (length items) (items_octets items) ≡ items
-items_from-items_octets subtype [] kind stores = refl
-items_from-items_octets subtype (item ∷ items) kind stores =
-    let asked = All-head (λ (item : Instruction). subtype_asked item ≡ Some subtype) item items kind in
-    let behind : drop 2 (item_of item ++ items_octets items) ≡ items_octets items = drop_at (item_of item) (items_octets items) 2 (length-item_of subtype item asked) in
-    let others : items_from subtype (length items) (items_octets items) ≡ items =
-    items_from-items_octets subtype items (All-tail (λ (item : Instruction). subtype_asked item ≡ Some subtype) item items kind) (All-tail HasStore item items stores) in
-    ap (λ (first : Instruction). first ∷ items_from subtype (length items) (drop 2 (item_of item ++ items_octets items))) (instruction_in-item_of subtype item (items_octets items) asked (All-head HasStore item items stores))
-    ∙ ap (λ (l : List ℕ). item ∷ items_from subtype (length items) l) behind ∙ ap (λ (l : List Instruction). item ∷ l) others
+  pub AreRight-items_octets : (items : List Instruction) → All (IsOf kind) items → AreRight kind (length items) (items_octets items)
+  AreRight-items_octets [] are = tt
+  AreRight-items_octets (item ∷ items) are =
+      let one = All-head (IsOf kind) item items are in
+      let behind : drop (width_of kind.fields) (item_of item ++ items_octets items) ≡ items_octets items =
+      drop_at (item_of item) (items_octets items) (width_of kind.fields) one.long in (
+        one.right (items_octets items),
+        subst (AreRight kind (length items)) (sym behind) (AreRight-items_octets items (All-tail (IsOf kind) item items are)),
+      )
 
 items_octets-append : (front behind : List Instruction) → items_octets (front ++ behind) ≡ items_octets front ++ items_octets behind
 items_octets-append [] behind = refl

@@ -1,9 +1,9 @@
 -- Requests on worked octets, by computation.
 use Rattle.std.proofs.Common.{◌≡◌, [], ◌∷◌, ◌++◌, refl, Some, None}
 use Rattle.std.specs.Prelude.{replicate}
-use Rattle.control_defs.specs.declared.instructions.Instruction.TheVariants.{Enable, Disable, Resume, Suspend}
+use Rattle.control_defs.specs.declared.instructions.Instruction.TheVariants.{Enable, Disable, Resume, Suspend, ForwardReport}
 use Rattle.pst_model.specs.declared.faults.RequestFault.TheVariants.{UnknownService, UnknownSubtype, Malformed}
-use Rattle.pst_model.specs.Requests.{items_in, request_fault_of, request_packet, subtype_of_items}
+use Rattle.pst_model.specs.Requests.{items_in, request_fault_of, request_packet, service_of_items, subtype_of_items}
 
 -- the count: one item, two, the most, and none, too many or no count at all
 one : request_fault_of 15 1 (1 ∷ 0x01 ∷ 0x02 ∷ []) ≡ None
@@ -35,7 +35,7 @@ one_too_many : request_fault_of 15 1 (1 ∷ 0 ∷ 1 ∷ 0 ∷ []) ≡ Some (Malf
 one_too_many = refl
 
 -- services and subtypes that are not known, whatever the data
-service_below : request_fault_of 14 1 (1 ∷ 0 ∷ 1 ∷ []) ≡ Some (UnknownService 14)
+service_below : request_fault_of 13 1 (1 ∷ 0 ∷ 1 ∷ []) ≡ Some (UnknownService 13)
 service_below = refl
 
 service_above : request_fault_of 17 0 [] ≡ Some (UnknownService 17)
@@ -44,30 +44,30 @@ service_above = refl
 subtype_0 : request_fault_of 15 0 (1 ∷ 0 ∷ 1 ∷ []) ≡ Some (UnknownSubtype 0)
 subtype_0 = refl
 
-subtype_3 : request_fault_of 15 3 (1 ∷ 0 ∷ 1 ∷ []) ≡ Some (UnknownSubtype 3)
-subtype_3 = refl
+subtype_10 : request_fault_of 15 10 (1 ∷ 0 ∷ 1 ∷ []) ≡ Some (UnknownSubtype 10)
+subtype_10 = refl
 
-subtype_14 : request_fault_of 15 14 (1 ∷ 0 ∷ 1 ∷ []) ≡ Some (UnknownSubtype 14)
-subtype_14 = refl
+subtype_29 : request_fault_of 15 29 [] ≡ Some (UnknownSubtype 29)
+subtype_29 = refl
 
-subtype_17 : request_fault_of 15 17 [] ≡ Some (UnknownSubtype 17)
-subtype_17 = refl
+subtype_4_of_14 : request_fault_of 14 4 (1 ∷ 0 ∷ 1 ∷ []) ≡ Some (UnknownSubtype 4)
+subtype_4_of_14 = refl
 
 -- what is spelled by each kind
-enabled : items_in 1 (1 ∷ 0x01 ∷ 0x02 ∷ []) ≡ Enable 258 ∷ []
+enabled : items_in 15 1 (1 ∷ 0x01 ∷ 0x02 ∷ []) ≡ Enable 258 ∷ []
 enabled = refl
 
-disabled : items_in 2 (2 ∷ 0 ∷ 1 ∷ 0 ∷ 2 ∷ []) ≡ Disable 1 ∷ Disable 2 ∷ []
+disabled : items_in 15 2 (2 ∷ 0 ∷ 1 ∷ 0 ∷ 2 ∷ []) ≡ Disable 1 ∷ Disable 2 ∷ []
 disabled = refl
 
-resumed : items_in 15 (1 ∷ 0xff ∷ 0xff ∷ []) ≡ Resume 65535 ∷ []
+resumed : items_in 15 15 (1 ∷ 0xff ∷ 0xff ∷ []) ≡ Resume 65535 ∷ []
 resumed = refl
 
-suspended : items_in 16 (1 ∷ 0 ∷ 0 ∷ []) ≡ Suspend 0 ∷ []
+suspended : items_in 15 16 (1 ∷ 0 ∷ 0 ∷ []) ≡ Suspend 0 ∷ []
 suspended = refl
 
 -- a request of two items, octet by octet
-written : request_packet 3 9 2 5 (Disable 1 ∷ Disable 2 ∷ [])
+written : request_packet 3 9 15 2 5 (Disable 1 ∷ Disable 2 ∷ [])
     ≡ (0x18 ∷ 0x0a ∷ 0xc0 ∷ 0x03 ∷ 0x00 ∷ 0x09 ∷ []) ++ (0x29 ∷ 0x0f ∷ 0x02 ∷ 0x00 ∷ 0x05 ∷ []) ++ 0x02 ∷ 0x00 ∷ 0x01 ∷ 0x00 ∷ 0x02 ∷ []
 written = refl
 
@@ -76,3 +76,6 @@ first_subtype = refl
 
 no_subtype : subtype_of_items [] ≡ 0
 no_subtype = refl
+
+first_service : service_of_items (ForwardReport ∷ []) ≡ 14
+first_service = refl

@@ -7,7 +7,7 @@ use Rattle.std.proofs.lemmas.Result.{IfOk-weaker}
 use Rattle.space_packet.specs.Charge.{charge_of}
 use Rattle.control_defs.specs.declared.instructions.Instruction.{Instruction}
 use Rattle.control_defs.specs.declared.instructions.Instruction.TheVariants.{ForwardAdd, ForwardDelete, ForwardReport, Enable, Disable, AddTypes, DeleteTypes, ReportTypes, Summary, Resume, Suspend, Status, Configuration}
-use Rattle.pus_header.specs.Commands.{subtype_of}
+use Rattle.pus_header.specs.Commands.{service_of, subtype_of}
 use Rattle.pus_header.specs.Keys.{key_of}
 use Rattle.pst_model.specs.declared.verdicts.Verdict.{Verdict}
 use Rattle.space_packet.specs.Packet.{apid_of}
@@ -84,7 +84,7 @@ instruct_within _ table within = tt
 answer_within : (number moment : ℕ) (packet : List ℕ) (table : Table) (refusal : Option Verdict) → All IsWithin table.stores → All IsWithin (answer_by number moment packet table refusal).table.stores
 answer_within number moment packet table (Some verdict) within = within
 answer_within number moment packet table None within =
-    carry_keeps (λ (next : Table). All IsWithin next.stores) instruct_within 1 (items_in (subtype_of packet) (data_in packet)) table within
+    carry_keeps (λ (next : Table). All IsWithin next.stores) instruct_within 1 (items_in (service_of packet) (subtype_of packet) (data_in packet)) table within
 
 -- no step passes more packets than there are
 pub step_within : (number : ℕ) (command : Command) (table : Table) → All IsWithin table.stores → All IsWithin (step number command table).table.stores

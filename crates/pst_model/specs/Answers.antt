@@ -1,5 +1,6 @@
 -- What a request does to the table, and the reports that answer it (ECSS-E-ST-70-41C, 6.1 and 6.15).
-use Rattle.std.specs.Prelude.{ℕ, ◌+◌, ◌/◌, ◌%◌, ◌==◌, Bool, true, false, not, if◌then◌else◌, List, [], ◌∷◌, ◌++◌, length, map, take, drop, Option, Some, None, Result, Ok, Err}
+use Rattle.std.specs.Prelude.{ℕ, ◌+◌, ◌/◌, ◌%◌, ◌==◌, ◌&&◌, ◌||◌, Bool, true, false, not, if◌then◌else◌, List, [], ◌∷◌, ◌++◌, length, map, take, drop, Option, Some, None, Result, Ok, Err}
+use Rattle.std.specs.List.{list_any}
 use Rattle.space_packet.specs.Packet.{apid_of}
 use Rattle.control_defs.specs.declared.instructions.Instruction.{Instruction}
 use Rattle.pus_header.specs.Commands.{acks_of, service_of, subtype_of, tc_fault_of}
@@ -12,6 +13,8 @@ use Rattle.pst_model.specs.declared.verdicts.Verdict.TheVariants.{Accepted, Refu
 use Rattle.pst_model.specs.Contents.{content_report}
 use Rattle.pst_model.specs.Instructions.{instruct}
 use Rattle.pst_model.specs.Reports.{Report, count_behind, report_packet, verdict_report}
+use Rattle.pst_model.specs.Items.{kind_asked}
+use Rattle.pst_model.specs.Layouts.{RequestKind, kinds}
 use Rattle.pst_model.specs.Requests.{items_in, request_fault_of}
 use Rattle.pst_model.specs.Rules.{Output, Reply, Step}
 use Rattle.pst_model.specs.Table.{Table}
@@ -36,6 +39,26 @@ abbrev pub refused_as : Option TcFault → Option RequestFault → Option Verdic
 refused_as (Some fault) behind = Some (header_refusal fault)
 refused_as None behind = refused_by behind
 
+-- The kinds of request that are built, by service type and message subtype: to enable and disable storage, to
+-- resume and suspend open retrieval. A service of which nothing is built counts as unknown.
+abbrev pub is_built : (service subtype : ℕ) → Bool
+is_built service subtype = service == 15 && (subtype == 1 || subtype == 2 || subtype == 15 || subtype == 16)
+
+-- whether a kind of this service is built
+abbrev pub is_served : (service : ℕ) → Bool
+is_served service = list_any (λ (kind : RequestKind). kind.service == service && is_built kind.service kind.subtype) kinds
+
+-- whether requests for an instruction are built
+abbrev pub is_carried : Instruction → Bool
+is_carried item = is_built (kind_asked item).0 (kind_asked item).1
+
+-- the first fault of a request, where the kinds that are not built count as unknown
+abbrev pub built_fault_of : (service subtype : ℕ) → List ℕ → Option RequestFault
+built_fault_of service subtype body =
+    if not (is_served service) then Some (UnknownService service)
+    else if not (is_built service subtype) then Some (UnknownSubtype subtype)
+    else request_fault_of service subtype body
+
 -- what stands behind both headers of a telecommand
 abbrev pub data_in : List ℕ → List ℕ
 data_in packet = drop 11 packet
@@ -44,7 +67,7 @@ data_in packet = drop 11 packet
 abbrev pub refusal_of : List ℕ → Option Verdict
 refusal_of packet =
     if not (apid_of packet == 10) then Some (Refused 1 (apid_of packet))
-    else refused_as (tc_fault_of packet) (request_fault_of (service_of packet) (subtype_of packet) (data_in packet))
+    else refused_as (tc_fault_of packet) (built_fault_of (service_of packet) (subtype_of packet) (data_in packet))
 
 -- Instructions, one behind another: the table behind all that took effect, and for each that failed its
 -- number, from 1, and its code.
@@ -136,7 +159,7 @@ answer_carried number moment packet items carried = replied number moment carrie
 abbrev pub answer_by : (number moment : ℕ) → (packet : List ℕ) → Table → Option Verdict → Step
 answer_by number moment packet table (Some verdict) = replied number moment table (on_request packet (verdict ∷ []))
 answer_by number moment packet table None =
-    answer_carried number moment packet (items_in (subtype_of packet) (data_in packet)) (carry_out (items_in (subtype_of packet) (data_in packet)) table)
+    answer_carried number moment packet (items_in (service_of packet) (subtype_of packet) (data_in packet)) (carry_out (items_in (service_of packet) (subtype_of packet) (data_in packet)) table)
 
 -- A request: where a judgement refuses it, [1,2] alone answers it. Else its instructions are taken in order,
 -- each of which takes effect or fails, and a failed one changes nothing.

@@ -4,9 +4,12 @@ pub mod Command
 pub mod Contents
 pub mod Forms
 pub mod Instructions
+pub mod Items
 pub mod Laws
+pub mod Layouts
 pub mod Least
 pub mod Output
+pub mod PatternOctets
 pub mod ReadBack
 pub mod PatternOctets
 pub mod Reports

@@ -50,5 +50,5 @@ abbrev pub is_wrong_in_pattern : List ℕ → (place : ℕ) → Bool
 is_wrong_in_pattern octets place =
     (place == 0 && nat_lt 3 (form_in octets))
     || (place == 1 && nat_lt (highest_apid (form_in octets)) (apid_in octets))
-    || (place == 3 && nat_le (form_in octets) 1 && not (service_in octets == 0))
-    || (place == 4 && nat_le (form_in octets) 2 && not (subtype_in octets == 0))
+    || (place == 3 && (nat_le (form_in octets) 1 && not (service_in octets == 0)))
+    || (place == 4 && (nat_le (form_in octets) 2 && not (subtype_in octets == 0)))
