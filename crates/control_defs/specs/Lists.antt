@@ -1,5 +1,5 @@
 -- Lists of patterns: sorted, and none covers another.
-use Rattle.std.specs.Prelude.{◌≡◌, ◌≤◌, ◌++◌, ℕ, false, not, if◌then◌else◌, List, ◌∷◌, length, filter, All, AllPairs}
+use Rattle.std.specs.Prelude.{◌≡◌, ◌≤◌, ◌++◌, ℕ, Bool, false, not, if◌then◌else◌, List, ◌∷◌, length, filter, All, AllPairs}
 use Rattle.std.specs.List.{AllWithin, list_any}
 use Rattle.std.specs.Ordering.{is_eq, is_lt, nat_cmp, ordering_then}
 use Rattle.std.specs.declared.cmp.Ordering.{Ordering}

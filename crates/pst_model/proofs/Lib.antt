@@ -1,5 +1,6 @@
 mod AnswerRows
 pub mod Carried
+mod ContentRows
 pub mod Counted
 pub mod ItemOctets
 mod ItemRows

@@ -14,7 +14,6 @@ use Rattle.pst_model.specs.Contents.{content_report}
 use Rattle.pst_model.specs.Instructions.{instruct}
 use Rattle.pst_model.specs.Reports.{Report, count_behind, report_packet, verdict_report}
 use Rattle.pst_model.specs.Items.{kind_asked}
-use Rattle.pst_model.specs.Layouts.{RequestKind, kinds}
 use Rattle.pst_model.specs.Requests.{items_in, request_fault_of}
 use Rattle.pst_model.specs.Rules.{Output, Reply, Step}
 use Rattle.pst_model.specs.Table.{Table}
@@ -39,25 +38,22 @@ abbrev pub refused_as : Option TcFault → Option RequestFault → Option Verdic
 refused_as (Some fault) behind = Some (header_refusal fault)
 refused_as None behind = refused_by behind
 
--- The kinds of request that are built, by service type and message subtype: to enable and disable storage, to
--- resume and suspend open retrieval. A service of which nothing is built counts as unknown.
-abbrev pub is_built : (service subtype : ℕ) → Bool
-is_built service subtype = service == 15 && (subtype == 1 || subtype == 2 || subtype == 15 || subtype == 16)
+-- Kinds of request of service 15 that are known and not carried out yet: they are answered as of an unknown
+-- subtype, before their data is judged.
+abbrev pub pending_subtypes : List ℕ
+pending_subtypes = 9 ∷ 11 ∷ 14 ∷ 17 ∷ 20 ∷ 21 ∷ 24 ∷ 25 ∷ 26 ∷ 27 ∷ 28 ∷ []
 
--- whether a kind of this service is built
-abbrev pub is_served : (service : ℕ) → Bool
-is_served service = list_any (λ (kind : RequestKind). kind.service == service && is_built kind.service kind.subtype) kinds
+abbrev pub is_pending : (service subtype : ℕ) → Bool
+is_pending service subtype = service == 15 && list_any (λ pending. pending == subtype) pending_subtypes
 
--- whether requests for an instruction are built
+-- whether an instruction is of a kind that is carried out
 abbrev pub is_carried : Instruction → Bool
-is_carried item = is_built (kind_asked item).0 (kind_asked item).1
+is_carried item = not (is_pending (kind_asked item).0 (kind_asked item).1)
 
--- the first fault of a request, where the kinds that are not built count as unknown
-abbrev pub built_fault_of : (service subtype : ℕ) → List ℕ → Option RequestFault
-built_fault_of service subtype body =
-    if not (is_served service) then Some (UnknownService service)
-    else if not (is_built service subtype) then Some (UnknownSubtype subtype)
-    else request_fault_of service subtype body
+-- the first fault of a request, where the kinds that are not carried out yet count as unknown
+abbrev pub fault_of_request : (service subtype : ℕ) → List ℕ → Option RequestFault
+fault_of_request service subtype body =
+    if is_pending service subtype then Some (UnknownSubtype subtype) else request_fault_of service subtype body
 
 -- what stands behind both headers of a telecommand
 abbrev pub data_in : List ℕ → List ℕ
@@ -67,7 +63,7 @@ data_in packet = drop 11 packet
 abbrev pub refusal_of : List ℕ → Option Verdict
 refusal_of packet =
     if not (apid_of packet == 10) then Some (Refused 1 (apid_of packet))
-    else refused_as (tc_fault_of packet) (built_fault_of (service_of packet) (subtype_of packet) (data_in packet))
+    else refused_as (tc_fault_of packet) (fault_of_request (service_of packet) (subtype_of packet) (data_in packet))
 
 -- Instructions, one behind another: the table behind all that took effect, and for each that failed its
 -- number, from 1, and its code.

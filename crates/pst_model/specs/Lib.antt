@@ -11,7 +11,6 @@ pub mod Least
 pub mod Output
 pub mod PatternOctets
 pub mod ReadBack
-pub mod PatternOctets
 pub mod Reports
 pub mod Requests
 pub mod Rules
