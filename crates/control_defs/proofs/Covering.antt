@@ -12,7 +12,8 @@ same a = eq-eqb a a refl
 turned : (a b : ℕ) → (b == a) ≡ true → (a == b) ≡ true
 turned a b h = eq-eqb a b (sym (eqb-true b a h))
 
-of_service_of_kind : (kind : Option (ℕ × ℕ)) (service subtype : ℕ) → is_of_kind kind service subtype ≡ true → is_of_service kind service ≡ true
+of_service_of_kind : (kind : Option (ℕ × ℕ)) (service subtype : ℕ)
+    → is_of_kind kind service subtype ≡ true → is_of_service kind service ≡ true
 of_service_of_kind None service subtype h = cc h
 of_service_of_kind (Some kind) service subtype h = (and_parts (kind.0 == service) (kind.1 == subtype) h).0
 
@@ -67,28 +68,35 @@ covers_from_keys (App a) Every range octets f =
     let n = is_another a in cc
 covers_from_keys (App a) (App b) range octets f = turned a b (f (record { apid = b; kind = None }) (range, tt) (same b))
 covers_from_keys (App a) (Service b t) range octets f =
-    turned a b (f (record { apid = b; kind = Some (t, 0) }) (range, (octets, omega arith)) (and_from _ _ (same b) (same t)))
+    turned a b (f (record { apid = b; kind = Some (t, 0) }) (range, (octets, omega arith)) (covers_itself (Service b t)))
 covers_from_keys (App a) (Kind b t u) range octets f =
-    turned a b (f (record { apid = b; kind = Some (t, u) }) (range, octets) (and_from _ _ (same b) (and_from _ _ (same t) (same u))))
+    turned a b (f (record { apid = b; kind = Some (t, u) }) (range, octets) (covers_itself (Kind b t u)))
 covers_from_keys (Service a s) Every range octets f =
     (and_parts (0 == a) false (f (record { apid = 0; kind = None }) (omega arith, tt) refl)).1
 covers_from_keys (Service a s) (App b) range octets f =
     (and_parts (b == a) false (f (record { apid = b; kind = None }) (range, tt) (same b))).1
 covers_from_keys (Service a s) (Service b t) range octets f =
-    let k = and_parts (b == a) (t == s) (f (record { apid = b; kind = Some (t, 0) }) (range, (octets, omega arith)) (and_from _ _ (same b) (same t))) in
+    let itself = covers_itself (Service b t) in
+    let covered = f (record { apid = b; kind = Some (t, 0) }) (range, (octets, omega arith)) itself in
+    let k = and_parts (b == a) (t == s) covered in
     and_from _ _ (turned a b k.0) (turned s t k.1)
 covers_from_keys (Service a s) (Kind b t u) range octets f =
-    let k = and_parts (b == a) (t == s) (f (record { apid = b; kind = Some (t, u) }) (range, octets) (and_from _ _ (same b) (and_from _ _ (same t) (same u)))) in
+    let covered = f (record { apid = b; kind = Some (t, u) }) (range, octets) (covers_itself (Kind b t u)) in
+    let k = and_parts (b == a) (t == s) covered in
     and_from _ _ (turned a b k.0) (turned s t k.1)
 covers_from_keys (Kind a s v) Every range octets f =
     (and_parts (0 == a) false (f (record { apid = 0; kind = None }) (omega arith, tt) refl)).1
 covers_from_keys (Kind a s v) (App b) range octets f =
     (and_parts (b == a) false (f (record { apid = b; kind = None }) (range, tt) (same b))).1
 covers_from_keys (Kind a s v) (Service b t) range octets f =
-    let k = and_parts (b == a) (t == s && another v == v) (f (record { apid = b; kind = Some (t, another v) }) (range, (octets, omega (arith, another_small v))) (and_from _ _ (same b) (same t))) in
+    let small : another v ≤ 255 = omega (arith, another_small v) in
+    let itself = covers_itself (Service b t) in
+    let covered = f (record { apid = b; kind = Some (t, another v) }) (range, (octets, small)) itself in
+    let k = and_parts (b == a) (t == s && another v == v) covered in
     let two = and_parts (t == s) (another v == v) k.1 in
     let n = is_another v in cc (two.1, n)
 covers_from_keys (Kind a s v) (Kind b t u) range octets f =
-    let k = and_parts (b == a) (t == s && u == v) (f (record { apid = b; kind = Some (t, u) }) (range, octets) (and_from _ _ (same b) (and_from _ _ (same t) (same u)))) in
+    let covered = f (record { apid = b; kind = Some (t, u) }) (range, octets) (covers_itself (Kind b t u)) in
+    let k = and_parts (b == a) (t == s && u == v) covered in
     let two = and_parts (t == s) (u == v) k.1 in
     and_from _ _ (turned a b k.0) (and_from _ _ (turned s t two.0) (turned v u two.1))

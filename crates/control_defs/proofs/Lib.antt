@@ -2,4 +2,5 @@ pub mod Covering
 pub mod Kept
 pub mod Order
 pub mod Parts
+pub mod Places
 mod Rows

@@ -19,8 +19,8 @@ use Rattle.control_defs.specs.Lists.{IsPlace, pattern_form, pattern_apid, patter
 
 pub pattern_cmp_total : IsTotalOrder pattern_cmp
 pattern_cmp_total =
-    then_total (on_total pattern_form nat_cmp_total)
-    (then_total (on_total pattern_apid nat_cmp_total) (then_total (on_total pattern_service nat_cmp_total) (on_total pattern_subtype nat_cmp_total)))
+    let last = then_total (on_total pattern_service nat_cmp_total) (on_total pattern_subtype nat_cmp_total) in
+    then_total (on_total pattern_form nat_cmp_total) (then_total (on_total pattern_apid nat_cmp_total) last)
 
 -- patterns that the order does not tell apart are the same
 pub same_from_tied : (p q : Pattern) → pattern_cmp p q ≡ Equal → p ≡ q
@@ -55,13 +55,18 @@ module _ (xs : List Pattern) (p : Pattern) (up : AllPairs (λ x y. pattern_cmp x
   searchable : IsNonDecreasingBy (λ y. ordering_index (pattern_cmp y p)) xs
   searchable =
       searchable_from_sorted pattern_cmp_total (λ x. x) xs p
-      (λ k d low high. ap is_lt (less_back (get_or xs k d) (get_or xs (k + 1) d) (up k (k + 1) d (omega arith) (omega arith))))
+      (λ k d low high.
+      let next = up k (k + 1) d (omega arith) (omega arith) in
+      ap is_lt (less_back (get_or xs k d) (get_or xs (k + 1) d) next))
 
   -- where a binary search for an absent pattern ends
-  absent_place : (r : Result ℕ ℕ) → IsSearchInRange r (length xs) → IsBinarySearchResult (λ y. ghosts.cmp y p) xs r → IfErr r (IsPlace xs p)
+  absent_place : (r : Result ℕ ℕ) → IsSearchInRange r (length xs) → IsBinarySearchResult (λ y. ghosts.cmp y p) xs r
+      → IfErr r (IsPlace xs p)
   absent_place (Ok i) bound found = tt
   absent_place (Err i) bound found =
-      let f : IsBinarySearchResult (λ y. pattern_cmp y p) xs (Err i) = subst (λ ord. IsBinarySearchResult ord xs (Err i)) (fun_ext (λ y. cmp_is y p)) found in
+      let same = fun_ext (λ y. cmp_is y p) in
+      let f : IsBinarySearchResult (λ y. pattern_cmp y p) xs (Err i) =
+      subst (λ ord. IsBinarySearchResult ord xs (Err i)) same found in
       let parts = f searchable in record { within = bound; below = parts.0; above = parts.1 }
 
 -- where it ends at one that is in the list
@@ -88,13 +93,14 @@ found_stands (Ok i) xs p bound found absent = (λ _. (i, bound, get_or_from_slic
 found_stands (Err i) xs p bound found absent = (λ h. cc h, λ there. absurd (no_place_of_one xs i p absent there))
 
 -- a search in a rising list finds a pattern, or the place where it would stand
-pub search_ends : (xs ys : List Pattern) (p : Pattern) (r : Result ℕ ℕ) → ys ≡ xs → AllPairs (λ x y. pattern_cmp x y ≡ Less) xs
-    → IsSearchInRange r (length ys) → IfOk r (HoldsAt (λ y. ghosts.cmp y p ≡ Equal) ys) → IsBinarySearchResult (λ y. ghosts.cmp y p) ys r
+pub search_ends : (xs ys : List Pattern) (p : Pattern) (r : Result ℕ ℕ) → ys ≡ xs
+    → AllPairs (λ x y. pattern_cmp x y ≡ Less) xs → IsSearchInRange r (length ys)
+    → IfOk r (HoldsAt (λ y. ghosts.cmp y p ≡ Equal) ys) → IsBinarySearchResult (λ y. ghosts.cmp y p) ys r
     → IfOk r (λ i. slice_get xs i ≡ Some p) × IfErr r (IsPlace xs p) × (IsOk r ↔ Contains xs p)
 search_ends xs ys p r same up bound tied found =
-    let moved =
-    subst (λ l. IsSearchInRange r (length l) × IfOk r (HoldsAt (λ y. ghosts.cmp y p ≡ Equal) l) × IsBinarySearchResult (λ y. ghosts.cmp y p) l r)
-    same (bound, tied, found) in
-    let at = found_place xs p r moved.0 moved.1 in
-    let place = absent_place xs p up r moved.0 moved.2 in
-    (at, place, found_stands r xs p moved.0 at place)
+    let inside = subst (λ l. IsSearchInRange r (length l)) same bound in
+    let tied_there = subst (λ l. IfOk r (HoldsAt (λ y. ghosts.cmp y p ≡ Equal) l)) same tied in
+    let found_there = subst (λ l. IsBinarySearchResult (λ y. ghosts.cmp y p) l r) same found in
+    let at = found_place xs p r inside tied_there in
+    let place = absent_place xs p up r inside found_there in
+    (at, place, found_stands r xs p inside at place)

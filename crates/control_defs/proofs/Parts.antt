@@ -47,8 +47,10 @@ module _ {X : Type 0} where
       let here : test x ≡ false = All-head (λ x. test x ≡ false) x xs h in
       rw here (filter_none test xs (All-tail (λ x. test x ≡ false) x xs h))
 
-  filter_parts : (test : X → Bool) (xs : List X) (i : ℕ) → filter test xs ≡ filter test (take i xs) ++ filter test (drop i xs)
-  filter_parts test xs i = ap (filter test) (sym (take-append-drop i xs)) ∙ filter-append test (take i xs) (drop i xs)
+  filter_parts : (test : X → Bool) (xs : List X) (i : ℕ)
+      → filter test xs ≡ filter test (take i xs) ++ filter test (drop i xs)
+  filter_parts test xs i =
+      ap (filter test) (sym (take-append-drop i xs)) ∙ filter-append test (take i xs) (drop i xs)
 
   -- a test that holds up to a place, and from there on fails
   pub filter_front : (test : X → Bool) (xs : List X) (i : ℕ) → i ≤ length xs → AllWithin (λ x. test x ≡ true) xs 0 i
@@ -68,7 +70,8 @@ module _ {X : Type 0} where
 
   -- a test that fails at one place alone
   pub filter_remove : (test : X → Bool) (xs : List X) (i : ℕ) (d : X) → i < length xs → test (get_or xs i d) ≡ false
-      → AllWithin (λ x. test x ≡ true) xs 0 i → AllWithin (λ x. test x ≡ true) xs (i + 1) (length xs) → filter test xs ≡ remove xs i
+      → AllWithin (λ x. test x ≡ true) xs 0 i → AllWithin (λ x. test x ≡ true) xs (i + 1) (length xs)
+      → filter test xs ≡ remove xs i
   filter_remove test xs i d within here low high =
       let front = filter_all test (take i xs) (All-front (λ x. test x ≡ true) xs i (omega arith) low) in
       let behind : AllWithin (λ x. test x ≡ true) xs (suc i) (length xs) = λ k d l h. high k d (omega arith) h in
@@ -77,7 +80,8 @@ module _ {X : Type 0} where
       filter_parts test xs i ∙ (λ j. front j ++ at j)
 
   -- of two tests one holds at each element, and the other fails
-  pub length_parts : (f g : X → Bool) (xs : List X) → All (λ x. f x ≡ not (g x)) xs → length (filter f xs) + length (filter g xs) ≡ length xs
+  pub length_parts : (f g : X → Bool) (xs : List X) → All (λ x. f x ≡ not (g x)) xs
+      → length (filter f xs) + length (filter g xs) ≡ length xs
   length_parts f g [] h = refl
   length_parts f g (x ∷ xs) h =
       let here : f x ≡ not (g x) = All-head (λ x. f x ≡ not (g x)) x xs h in
@@ -93,9 +97,11 @@ module _ {X : Type 0} where
   any_parts c f g (x ∷ xs) h =
       let here : f x ≡ not (g x) = All-head (λ x. f x ≡ not (g x)) x xs h in
       let rest = any_parts c f g xs (All-tail (λ x. f x ≡ not (g x)) x xs h) in
+      let front = list_any c (filter f xs) in
+      let back = list_any c (filter g xs) in
       elim (cases_Bool (g x)) [
-        | inl e ↦ rw (here, e) (or_left_comm (list_any c (filter f xs)) (c x) (list_any c (filter g xs)) ∙ ap (λ b. c x || b) rest)
-        | inr e ↦ rw (here, e) (or_assoc (c x) (list_any c (filter f xs)) (list_any c (filter g xs)) ∙ ap (λ b. c x || b) rest)
+        | inl e ↦ rw (here, e) (or_left_comm front (c x) back ∙ ap (λ b. c x || b) rest)
+        | inr e ↦ rw (here, e) (or_assoc (c x) front back ∙ ap (λ b. c x || b) rest)
       ]
 
   -- what a test that holds nowhere in a list says of each element
@@ -105,7 +111,8 @@ module _ {X : Type 0} where
 
   -- what stands at a place after an insert
   at_insert : (xs : List X) (i : ℕ) (y : X) (k : ℕ) (d : X) → i ≤ length xs
-      → ((k < i) × (get_or (insert xs i y) k d ≡ get_or xs k d)) ⊎ (((k ≡ i) × (get_or (insert xs i y) k d ≡ y)) ⊎ ((i < k) × (get_or (insert xs i y) k d ≡ get_or xs (k - 1) d)))
+      → ((k < i) × (get_or (insert xs i y) k d ≡ get_or xs k d))
+      ⊎ (((k ≡ i) × (get_or (insert xs i y) k d ≡ y)) ⊎ ((i < k) × (get_or (insert xs i y) k d ≡ get_or xs (k - 1) d)))
   at_insert xs i y k d l =
       elim (cases_lt k i) [
         | inl b ↦ inl (b, get_or-insert_below xs i y d k b l)
@@ -114,7 +121,8 @@ module _ {X : Type 0} where
               | inl e ↦ inr (inl (e, ap (λ j. get_or (insert xs i y) j d) e ∙ get_or-insert_at xs i y d l))
               | inr n ↦
                   let back : k ≡ k - 1 + 1 = omega arith in
-                  inr (inr (omega arith, ap (λ j. get_or (insert xs i y) j d) back ∙ get_or-insert_above xs i y d (k - 1) (omega arith) l))
+                  let above = get_or-insert_above xs i y d (k - 1) (omega arith) l in
+                  inr (inr (omega arith, ap (λ j. get_or (insert xs i y) j d) back ∙ above))
             ]
       ]
 

@@ -1,7 +1,8 @@
 -- Small worked inputs, which the definitions compute.
-use Rattle.std.proofs.Common.{◌≡◌, true, false, Some, None, [], ◌∷◌, refl}
+use Rattle.std.proofs.Common.{◌≡◌, true, false, Some, None, List, [], ◌∷◌, refl}
 use Rattle.std.specs.declared.cmp.Ordering.TheVariants.{Less, Equal, Greater}
 use Rattle.control_defs.specs.declared.keys.Key.{Key}
+use Rattle.control_defs.specs.declared.patterns.Pattern.{Pattern}
 use Rattle.control_defs.specs.declared.patterns.Pattern.TheVariants.{Every, App, Service, Kind}
 use Rattle.control_defs.specs.Lists.{pattern_cmp, with_pattern, without_pattern}
 use Rattle.control_defs.specs.Patterns.{any_covers, covers}
@@ -143,23 +144,27 @@ two_covered : with_pattern (Service 100 3) (App 7 ∷ Service 100 5 ∷ Kind 100
     ≡ App 7 ∷ Service 100 3 ∷ Service 100 5 ∷ Kind 200 3 1 ∷ []
 two_covered = refl
 
--- a list without a pattern: itself alone, and nothing where it is only covered
-first_removed : without_pattern (App 7) (App 7 ∷ Service 100 3 ∷ Kind 200 3 25 ∷ []) ≡ Service 100 3 ∷ Kind 200 3 25 ∷ []
+-- patterns that are apart
+abbrev three : List Pattern
+three = App 7 ∷ Service 100 3 ∷ Kind 200 3 25 ∷ []
+
+-- a list without a pattern: without itself alone, and the same where it is only covered
+first_removed : without_pattern (App 7) three ≡ Service 100 3 ∷ Kind 200 3 25 ∷ []
 first_removed = refl
 
-middle_removed : without_pattern (Service 100 3) (App 7 ∷ Service 100 3 ∷ Kind 200 3 25 ∷ []) ≡ App 7 ∷ Kind 200 3 25 ∷ []
+middle_removed : without_pattern (Service 100 3) three ≡ App 7 ∷ Kind 200 3 25 ∷ []
 middle_removed = refl
 
-last_removed : without_pattern (Kind 200 3 25) (App 7 ∷ Service 100 3 ∷ Kind 200 3 25 ∷ []) ≡ App 7 ∷ Service 100 3 ∷ []
+last_removed : without_pattern (Kind 200 3 25) three ≡ App 7 ∷ Service 100 3 ∷ []
 last_removed = refl
 
-covered_not_removed : without_pattern (Kind 100 3 25) (App 7 ∷ Service 100 3 ∷ Kind 200 3 25 ∷ []) ≡ App 7 ∷ Service 100 3 ∷ Kind 200 3 25 ∷ []
+covered_not_removed : without_pattern (Kind 100 3 25) three ≡ three
 covered_not_removed = refl
 
-covering_not_removed : without_pattern (App 100) (App 7 ∷ Service 100 3 ∷ Kind 200 3 25 ∷ []) ≡ App 7 ∷ Service 100 3 ∷ Kind 200 3 25 ∷ []
+covering_not_removed : without_pattern (App 100) three ≡ three
 covering_not_removed = refl
 
-every_not_removed : without_pattern Every (App 7 ∷ Service 100 3 ∷ Kind 200 3 25 ∷ []) ≡ App 7 ∷ Service 100 3 ∷ Kind 200 3 25 ∷ []
+every_not_removed : without_pattern Every three ≡ three
 every_not_removed = refl
 
 none_removed : without_pattern Every [] ≡ []

@@ -43,6 +43,14 @@ pattern_cmp p q =
     (ordering_then (nat_cmp (pattern_apid p) (pattern_apid q))
     (ordering_then (nat_cmp (pattern_service p) (pattern_service q)) (nat_cmp (pattern_subtype p) (pattern_subtype q))))
 
+-- a pattern is before another
+abbrev pub is_before : Pattern → Pattern → Bool
+is_before p q = is_lt (pattern_cmp p q)
+
+-- one of the patterns covers a pattern
+abbrev pub is_covered : Pattern → List Pattern → Bool
+is_covered pattern patterns = list_any (λ other. pattern_covers other pattern) patterns
+
 -- neither of two patterns covers the other
 abbrev pub AreApart : Pattern → Pattern → Type 0
 AreApart p q = (pattern_covers p q ≡ false) × (pattern_covers q p ≡ false)
@@ -68,18 +76,16 @@ pub record IsPlace (patterns : List Pattern) (pattern : Pattern) (at : ℕ) : Ty
 abbrev pub without_covered : Pattern → List Pattern → List Pattern
 without_covered pattern patterns = filter (λ other. not (pattern_covers pattern other)) patterns
 
--- a pattern with those of a list that are before it and those that are behind it
+-- a pattern between those of a list that are before it and those that it is before
 abbrev pub placed : Pattern → List Pattern → List Pattern
 placed pattern patterns =
-    filter (λ other. is_lt (pattern_cmp other pattern)) patterns
-    ++ pattern ∷ filter (λ other. is_lt (pattern_cmp pattern other)) patterns
+    filter (λ other. is_before other pattern) patterns ++ pattern ∷ filter (λ other. is_before pattern other) patterns
 
 -- A list with a pattern: the same list where it covers the pattern already, or else the pattern at its place
 -- in the order, among those that it does not cover.
 abbrev pub with_pattern : Pattern → List Pattern → List Pattern
 with_pattern pattern patterns =
-    if list_any (λ other. pattern_covers other pattern) patterns then patterns
-    else placed pattern (without_covered pattern patterns)
+    if is_covered pattern patterns then patterns else placed pattern (without_covered pattern patterns)
 
 -- a list without a pattern itself
 abbrev pub without_pattern : Pattern → List Pattern → List Pattern

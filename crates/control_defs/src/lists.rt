@@ -1,8 +1,7 @@
 // Lists of patterns, which say what is forwarded or stored.
 ghost use Rattle.std.specs.Prelude.{◌≡◌, ◌<◌, ◌≤◌, ◌↔◌, ◌∷◌, [], All, length, not, filter, insert, slice_get, Contains, Ok, Some, OnOk, OnErr, IsOk, IsErr, IfOk, IfErr};
-ghost use Rattle.std.specs.List.{list_any};
-ghost use Rattle.control_defs.specs.Lists.{AreApart, IsPatternList, IsPlace, placed, with_pattern, without_covered, without_pattern};
-ghost use Rattle.control_defs.specs.Patterns.{IsPattern, any_covers, pattern_covers};
+ghost use Rattle.control_defs.specs.Lists.{AreApart, IsPatternList, IsPlace, is_covered, placed, with_pattern, without_covered, without_pattern};
+ghost use Rattle.control_defs.specs.Patterns.{IsPattern, any_covers};
 
 use crate::keys::Key;
 use crate::patterns::Pattern;
@@ -98,7 +97,7 @@ impl Patterns {
 
     // Whether one of the patterns covers this one.
     fn covers_pattern(&self, pattern: &Pattern) -> bool
-        ensures some { result ≡ list_any (λ other. pattern_covers other pattern.now) self.now }
+        ensures some { result ≡ is_covered pattern.now self.now }
         ensures lawful { IsPatternList self.now }
     {
         self.items.iter().any(|other| other.covers_pattern(pattern))

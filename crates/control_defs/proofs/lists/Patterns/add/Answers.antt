@@ -1,5 +1,6 @@
 use Rattle.std.proofs.Common.{refl, sym, ◌∙◌, arith}
-use Rattle.control_defs.proofs.Kept.{beside_apart, beside_fits, length-with_uncovered}
+use Rattle.control_defs.proofs.Kept.{beside_fits}
+use Rattle.control_defs.proofs.Places.{beside_apart, length-with_uncovered}
 use Rattle.control_defs.proofs.lists.Patterns.add.Goals as goal
 
 pub returns-then-count_beside-eq64-clause-limit : goal.returns-then-count_beside-eq64-clause-limit

@@ -1,4 +1,5 @@
-use Rattle.control_defs.proofs.Kept.{IsPatternList-insert, insert_is}
+use Rattle.control_defs.proofs.Kept.{IsPatternList-insert}
+use Rattle.control_defs.proofs.Places.{insert_is}
 use Rattle.control_defs.proofs.lists.Patterns.place.Goals as goal
 
 pub invariant_of-self : goal.invariant_of-self
