@@ -4,3 +4,4 @@ pub mod Order
 pub mod Parts
 pub mod Places
 mod Rows
+pub mod Standing

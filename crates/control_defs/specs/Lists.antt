@@ -93,4 +93,4 @@ without_pattern pattern patterns = filter (λ other. not (is_eq (pattern_cmp oth
 
 -- whether a pattern itself stands in a list
 abbrev pub is_standing : Pattern → List Pattern → Bool
-is_standing pattern patterns = list_any (λ other. is_eq (pattern_cmp other pattern)) patterns
+is_standing pattern patterns = list_any (λ other. is_eq (pattern_cmp pattern other)) patterns

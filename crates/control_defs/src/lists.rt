@@ -1,6 +1,6 @@
 // Lists of patterns, which say what is forwarded or stored.
-ghost use Rattle.std.specs.Prelude.{◌≡◌, ◌<◌, ◌≤◌, ◌↔◌, ◌∷◌, [], All, length, not, filter, insert, slice_get, Contains, Ok, Some, OnOk, OnErr, IsOk, IsErr, IfOk, IfErr};
-ghost use Rattle.control_defs.specs.Lists.{AreApart, IsPatternList, IsPlace, is_covered, placed, with_pattern, without_covered, without_pattern};
+ghost use Rattle.std.specs.Prelude.{◌≡◌, ◌<◌, ◌≤◌, ◌↔◌, ◌∷◌, [], All, length, not, filter, insert, slice_get, Contains, Ok, Some, OnOk, OnErr, IsOk, IsErr, IfOk, IfErr, is_ok};
+ghost use Rattle.control_defs.specs.Lists.{AreApart, IsPatternList, IsPlace, is_covered, is_standing, placed, with_pattern, without_covered, without_pattern};
 ghost use Rattle.control_defs.specs.Patterns.{IsPattern, any_covers};
 
 use crate::keys::Key;
@@ -84,6 +84,7 @@ impl Patterns {
     pub fn remove(&mut self, pattern: Pattern) -> Result<(), Absent>
         ensures ok { OnOk result (self.new ≡ without_pattern pattern self.old) }
         ensures absent { IsErr result ↔ ¬ (Contains self.old pattern) }
+        ensures standing { is_ok result ≡ is_standing pattern self.old }
         ensures err { OnErr result (self.new ≡ self.old) }
     {
         match self.search(&pattern) {
