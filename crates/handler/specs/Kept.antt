@@ -1,5 +1,5 @@
 -- Packets as the code keeps them.
-use Rattle.std.specs.Prelude.{ℕ, ◌≤◌, List, length, map}
+use Rattle.std.specs.Prelude.{ℕ, ◌≤◌, ◌<◌, ◌^◌, List, length, map}
 use Rattle.handler.specs.declared.packets.Packet.{Packet}
 use Rattle.pst_model.specs.Rules.{to_drop}
 use Rattle.pst_model.specs.Table.{Stored, boot_store}
@@ -10,9 +10,10 @@ stored_of packet = record { time = packet.time; octets = packet.octets.items }
 abbrev pub packets_of : List Packet → List Stored
 packets_of packets = map stored_of packets
 
--- a packet that is kept has the length of one
-abbrev pub IsKept : Packet → Type 0
-IsKept packet = length packet.octets.items ≤ 4096
+-- A packet that is kept has the length of one, and a time of 48 bits.
+pub record IsKept (packet : Packet) : Type 0 where
+  pub short : length packet.octets.items ≤ 4096
+  pub timed : packet.time < 2 ^ 48
 
 -- how many packets leave the front of the boot store for so many pages
 abbrev pub leaving : List Packet → (need : ℕ) → ℕ

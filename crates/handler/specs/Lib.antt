@@ -1,3 +1,5 @@
+pub mod Asked
+pub mod Content
 pub mod Counting
 pub mod Faults
 pub mod Handler

@@ -1,12 +1,14 @@
 -- Why instructions fail.
 use Rattle.std.specs.Prelude.{ℕ, ◌==◌, Bool, true, false, not, if◌then◌else◌, Result, Ok, Err}
 use Rattle.handler.specs.declared.refusal.Refusal.{Refusal}
-use Rattle.handler.specs.declared.refusal.Refusal.TheVariants.{UnknownStore, AlreadySo}
-use Rattle.pst_model.specs.Instructions.{already_so, unknown_store}
+use Rattle.handler.specs.declared.refusal.Refusal.TheVariants.{UnknownStore, AlreadySo, PatternLimit, PatternAbsent}
+use Rattle.pst_model.specs.Instructions.{already_so, no_such_pattern, too_many_patterns, unknown_store}
 
 abbrev pub code_of : Refusal → ℕ
 code_of UnknownStore = unknown_store
 code_of AlreadySo = already_so
+code_of PatternLimit = too_many_patterns
+code_of PatternAbsent = no_such_pattern
 
 -- whether a flag is as it is wanted
 abbrev pub is_wanted : (wanted flag : Bool) → Bool

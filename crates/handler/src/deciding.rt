@@ -1,15 +1,27 @@
-// What a request does to the table, and the verdicts on it.
-ghost use Rattle.std.specs.Prelude.{◌≡◌, ℕ};
+// What a request does to the table, and what answers it.
+ghost use Rattle.std.specs.Prelude.{◌≡◌, ◌++◌, ℕ};
 ghost use Rattle.space_packet.specs.View.{octets_of};
 ghost use Rattle.pus_request.specs.View.{listed};
 ghost use Rattle.pst_model.specs.Answers.{answer, carry_out, on_request, replied};
+ghost use Rattle.handler.specs.Asked.{content_asked};
 ghost use Rattle.handler.specs.Table.{table_of};
 
 use crate::judging::judge;
 use crate::table::MemTable;
-use crate::verdicts::{Failures, Verdicts, verdicts_on};
+use crate::verdicts::{Failures, Verdicts, completed, verdicts_before};
 use pus_request::Items;
 use space_packet::PacketView;
+
+/// What answers a request, in its order.
+#[derive(Drop)]
+pub struct Decision<'a> {
+    /// The verdicts in front of the content report.
+    pub before: Verdicts,
+    /// The instructions whose content report is asked for, where no judgement refused the request.
+    pub asked: Option<Items<'a>>,
+    /// The verdict of completion, where there is one.
+    pub after: Verdicts,
+}
 
 // Carries out instructions in their order, and tells which failed.
 fn carry_out_all(table: &mut MemTable, items: &Items<'_>) -> Failures
@@ -24,21 +36,29 @@ fn carry_out_all(table: &mut MemTable, items: &Items<'_>) -> Failures
     failures
 }
 
-/// Judges a request, carries out its instructions where no judgement refuses it, and gives the verdicts on
-/// it in their order.
-pub fn decide(table: &mut MemTable, packet: PacketView<'_>) -> Verdicts
+/// Judges a request, carries out its instructions where no judgement refuses it, and tells what answers it.
+pub fn decide<'a>(table: &mut MemTable, packet: PacketView<'a>) -> Decision<'a>
     ensures { (number moment : ℕ) → answer number moment (octets_of packet.entry) (table_of table.old)
-        ≡ replied number moment (table_of table.new) (on_request (octets_of packet.entry) result.items) }
+        ≡ replied number moment (table_of table.new) (on_request (octets_of packet.entry) result.before.items
+        ++ content_asked result.asked (table_of table.new) ++ on_request (octets_of packet.entry) result.after.items) }
 {
     match judge(packet) {
         Ok(request) => {
             let failures = carry_out_all(table, &request.items);
-            verdicts_on(request.acks, failures.as_slice())
+            Decision {
+                before: verdicts_before(request.acks, failures.as_slice()),
+                asked: Some(request.items),
+                after: completed(request.acks, failures.as_slice()),
+            }
         }
         Err(refused) => {
-            let mut verdicts = Verdicts::new();
-            verdicts.push(refused);
-            verdicts
+            let mut before = Verdicts::new();
+            before.push(refused);
+            Decision {
+                before,
+                asked: None,
+                after: Verdicts::new(),
+            }
         }
     }
 }

@@ -1,6 +1,6 @@
 // The verdicts on a request that is not refused.
 ghost use Rattle.std.specs.Prelude.{◌≡◌, ◌==◌, ◌≤◌, ◌<◌, ◌+◌, ◌/◌, ◌%◌, ◌++◌, length, map};
-ghost use Rattle.pst_model.specs.Answers.{completed, failed_start, if_asked, started, verdicts_of};
+ghost use Rattle.pst_model.specs.Answers.{completed, failed_start, if_asked, started, verdicts_before};
 
 use arrayvec::ArrayVec;
 use pst_model::Verdict;
@@ -46,17 +46,28 @@ fn push_failures(verdicts: &mut Verdicts, failures: &[(u8, u8)])
     }
 }
 
-/// The verdicts on a request with these acknowledgement flags, of which at most 32 instructions failed, in
-/// their order.
-pub fn verdicts_on(acks: u8, failures: &[(u8, u8)]) -> Verdicts
+/// The verdicts on a request with these acknowledgement flags, of which at most 32 instructions failed, that
+/// stand in front of its content report: of acceptance, on each that failed, and of the start.
+pub fn verdicts_before(acks: u8, failures: &[(u8, u8)]) -> Verdicts
     requires { length failures.now ≤ 32 }
-    ensures { result.items ≡ verdicts_of acks failures.now }
+    ensures { result.items ≡ verdicts_before acks failures.now }
 {
     let mut verdicts = Verdicts::new();
     push_asked(&mut verdicts, acks, ACCEPTANCE, Verdict::Accepted);
     push_failures(&mut verdicts, failures);
     if failures.is_empty() {
         push_asked(&mut verdicts, acks, START, Verdict::Started);
+    }
+    verdicts
+}
+
+/// The verdict of completion, where it is asked for or some instructions failed.
+pub fn completed(acks: u8, failures: &[(u8, u8)]) -> Verdicts
+    requires { length failures.now ≤ 32 }
+    ensures { result.items ≡ completed acks failures.now }
+{
+    let mut verdicts = Verdicts::new();
+    if failures.is_empty() {
         push_asked(&mut verdicts, acks, COMPLETION, Verdict::Completed);
     } else {
         verdicts.push(Verdict::CompletionFailed {

@@ -37,9 +37,9 @@ abbrev pub summary_where : Option Store → List SummaryRow
 summary_where (Some store) = summary_of store ∷ []
 summary_where None = []
 
-abbrev pub summary_asked : Table → Instruction → List SummaryRow
-summary_asked table (Summary identifier) = summary_where (find (is_named identifier) table.stores)
-summary_asked table _ = []
+abbrev pub summary_asked : List Store → Instruction → List SummaryRow
+summary_asked stores (Summary identifier) = summary_where (find (is_named identifier) stores)
+summary_asked stores _ = []
 
 -- a summary report where there is a row
 abbrev pub summary_by : List SummaryRow → List Report
@@ -54,7 +54,7 @@ types_where None = []
 abbrev pub content_report : List Instruction → Table → List Report
 content_report (ForwardReport ∷ items) table = forward_report table.forward ∷ []
 content_report (ReportTypes identifier ∷ items) table = types_where (find (is_named identifier) table.stores)
-content_report (Summary identifier ∷ items) table = summary_by (flat_map (summary_asked table) (Summary identifier ∷ items))
+content_report (Summary identifier ∷ items) table = summary_by (flat_map (summary_asked table.stores) (Summary identifier ∷ items))
 content_report (Status ∷ items) table = status_report (map status_of table.stores) ∷ []
 content_report (Configuration ∷ items) table = configuration_report (map config_of table.stores) ∷ []
 content_report _ table = []

@@ -9,5 +9,5 @@ returns c number =
     let table = c.args.self.now in
     let next = c.requires in
     sym
-    (granted number table.clock table.reports table.storage table.open_on (packets_of table.packets.items) table.behind next.on
+    (granted number table.clock table.reports table.forward table.types table.storage table.open_on (packets_of table.packets.items) table.behind next.on
     (omega (arith, next.ahead, length-map table.packets.items stored_of)))

@@ -26,12 +26,13 @@ invariant_of-self c =
     c.charge-need.ensures ∙ ap charge_of (c.len.ensures ∙ c.in_ok-octets.octets.ok.0) in
     let content : content_in (packets_of now) ≡ content_in (packets_of others) + charge_of (length packet.octets.items) =
     ap (λ (packets : List Packet). content_in (packets_of packets)) pushed.items ∙ content_push others packet in
-    let short : IsKept packet = omega (arith, c.in_ok-octets.ensures.len, c.bytes.ensures.packet.at_most) in
+    let kept : IsKept packet = record { short = omega (arith, c.in_ok-octets.ensures.len, c.bytes.ensures.packet.at_most); timed = c.requires } in
     record {
+      timed = c.args.self.now.timed;
       counted = c.args.self.now.counted;
       charged = omega (arith, room.charged, content, charge);
       full = room.room;
-      kept = All-same IsKept now (others ++ packet ∷ []) pushed.items (All-push IsKept others packet room.kept short);
+      kept = All-same IsKept now (others ++ packet ∷ []) pushed.items (All-push IsKept others packet room.kept kept);
       passed = omega (arith, room.passed, count);
       room = omega (arith, pushed.capacity, room.capacity, c.args.self.now.room);
     }
