@@ -1,5 +1,5 @@
 -- Reports of this program, as octets (ECSS-E-ST-70-41C, 8.1 and 7.4.3).
-use Rattle.std.specs.Prelude.{ℕ, ◌+◌, ◌%◌, List, [], ◌∷◌, ◌++◌, length}
+use Rattle.std.specs.Prelude.{ℕ, ◌+◌, ◌<◌, ◌^◌, ◌%◌, List, [], ◌∷◌, ◌++◌, length}
 use Rattle.std.specs.Int.{from_bool}
 use Rattle.std.specs.List.{flat_map}
 use Rattle.octet_fields.specs.Fields.{big_bytes}
@@ -75,6 +75,11 @@ types_report store patterns = record { service = 15; subtype = 6; content = big_
 abbrev pub summary_octets : SummaryRow → List ℕ
 summary_octets row =
     big_bytes 2 row.store ++ big_bytes 4 row.packets ++ big_bytes 4 row.pages ++ big_bytes 6 row.oldest ++ big_bytes 6 row.newest ++ big_bytes 4 row.ahead
+
+-- the times in it have six octets each
+pub record HasTimes (row : SummaryRow) : Type 0 where
+  pub oldest : row.oldest < 2 ^ 48
+  pub newest : row.newest < 2 ^ 48
 
 abbrev pub summary_report : List SummaryRow → Report
 summary_report rows = record { service = 15; subtype = 13; content = listed_octets summary_octets rows }

@@ -1,0 +1,123 @@
+// Reports of patterns: those of packets that are forwarded (ECSS-E-ST-70-41C, 6.14) or stored (6.15).
+ghost use Rattle.std.specs.Prelude.{◌≡◌, ◌+◌, ◌*◌, ◌<◌, ◌≤◌, ◌^◌, [], ◌∷◌, ◌++◌, length, drop};
+ghost use Rattle.octet_fields.specs.Fields.{Writes, big_bytes};
+ghost use Rattle.space_packet.specs.Packet.{IsPacket};
+ghost use Rattle.pst_model.specs.PatternOctets.{pattern_octets};
+ghost use Rattle.pst_model.specs.Reports.{forward_report, listed_octets, report_packet, types_report};
+
+use crate::head::{HEADERS, Head, STORAGE, put_head};
+use control_defs::Pattern;
+use octet_fields::{put_u8, put_u16};
+
+/// The service of real-time forwarding control.
+const FORWARDING: u8 = 14;
+
+/// The message subtype of the report of what is forwarded.
+const FORWARD_REPORT: u8 = 4;
+
+/// The message subtype of the report of what a store takes.
+const TYPES_REPORT: u8 = 6;
+
+/// The octets of a pattern.
+const PATTERN: u32 = 5;
+
+/// The octets of a store's identifier.
+const STORE: u32 = 2;
+
+// What the octets of a pattern say, 0 where its form does not use a field.
+#[derive(Clone, Copy)]
+struct Fields {
+    form: u8,
+    apid: u16,
+    service: u8,
+    subtype: u8,
+}
+
+// The fields of a pattern.
+fn fields_of(pattern: Pattern) -> Fields
+    ensures { pattern_octets pattern ≡ result.form ∷ big_bytes 2 result.apid ++ result.service ∷ result.subtype ∷ [] }
+{
+    let (form, apid, service, subtype) = match pattern {
+        Pattern::Every => (0, 0, 0, 0),
+        Pattern::App(apid) => (1, apid, 0, 0),
+        Pattern::Service(apid, service) => (2, apid, service, 0),
+        Pattern::Kind(apid, service, subtype) => (3, apid, service, subtype),
+    };
+    Fields {
+        form,
+        apid,
+        service,
+        subtype,
+    }
+}
+
+// Writes a pattern, and answers the place behind it.
+fn put_pattern(pattern: Pattern, out: &mut [u8], at: usize) -> usize
+    requires { at + 5 ≤ length out.old }
+    ensures place { result ≡ at + 5 }
+    ensures written { Writes out.old out.new at (pattern_octets pattern) }
+{
+    let fields = fields_of(pattern);
+    put_u8(out, at, fields.form);
+    put_u16(out, at + 1, fields.apid);
+    put_u8(out, at + 3, fields.service);
+    put_u8(out, at + 4, fields.subtype);
+    at + PATTERN as usize
+}
+
+// Writes patterns, behind one octet with their number.
+fn put_patterns(patterns: &[Pattern], out: &mut [u8], at: usize)
+    requires few { length patterns.now ≤ 64 }
+    requires room { at + 1 + 5 * length patterns.now ≤ length out.old }
+    ensures { Writes out.old out.new at (listed_octets pattern_octets patterns.now) }
+{
+    put_u8(out, at, patterns.len() as u8);
+    let mut place = at + 1;
+    for pattern in patterns {
+        place = put_pattern(*pattern, out, place);
+    }
+}
+
+/// Writes the report of the patterns of packets that are forwarded, at most 64, at the front of `out`,
+/// which has at least 1,024 octets, and answers the report's length: 20 octets and five a pattern. The
+/// report is of service 14 (ECSS-E-ST-70-41C, 6.14); it has the number of patterns in one octet, and
+/// of each its form in one, its APID in two, its service type and its message subtype in one each, 0
+/// where the form does not use them. The rest of `out` stays.
+pub fn write_forward(head: Head, patterns: &[Pattern], out: &mut [u8]) -> u32
+    requires count { head.count < 16384 }
+    requires moment { head.moment < 2 ^ 48 }
+    requires few { length patterns.now ≤ 64 }
+    requires room { 1024 ≤ length out.old }
+    ensures length { result ≡ length (report_packet head.count head.moment (forward_report patterns.now)) }
+    ensures report { let packet = report_packet head.count head.moment (forward_report patterns.now)
+        in out.new ≡ packet ++ drop (length packet) out.old }
+    ensures short { result ≤ 1024 }
+    ensures packet { IsPacket (report_packet head.count head.moment (forward_report patterns.now)) }
+{
+    let content = 1 + PATTERN * patterns.len() as u32;
+    put_head(head, FORWARDING, FORWARD_REPORT, content, out);
+    put_patterns(patterns, out, HEADERS);
+    HEADERS as u32 + content
+}
+
+/// Writes the report of the patterns of packets that a store takes, at most 64, at the front of `out`,
+/// which has at least 1,024 octets, and answers the report's length: 22 octets and five a pattern. The
+/// report is of service 15 (ECSS-E-ST-70-41C, 6.15); it has the store in two octets, and the patterns
+/// as in the report of those of packets that are forwarded. The rest of `out` stays.
+pub fn write_types(head: Head, store: u16, patterns: &[Pattern], out: &mut [u8]) -> u32
+    requires count { head.count < 16384 }
+    requires moment { head.moment < 2 ^ 48 }
+    requires few { length patterns.now ≤ 64 }
+    requires room { 1024 ≤ length out.old }
+    ensures length { result ≡ length (report_packet head.count head.moment (types_report store patterns.now)) }
+    ensures report { let packet = report_packet head.count head.moment (types_report store patterns.now)
+        in out.new ≡ packet ++ drop (length packet) out.old }
+    ensures short { result ≤ 1024 }
+    ensures packet { IsPacket (report_packet head.count head.moment (types_report store patterns.now)) }
+{
+    let content = STORE + 1 + PATTERN * patterns.len() as u32;
+    put_head(head, STORAGE, TYPES_REPORT, content, out);
+    put_u16(out, HEADERS, store);
+    put_patterns(patterns, out, HEADERS + STORE as usize);
+    HEADERS as u32 + content
+}
