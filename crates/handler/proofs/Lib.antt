@@ -1,4 +1,5 @@
 pub mod Answered
+pub mod Answering
 pub mod Arrivals
 pub mod Carrying
 pub mod Contents

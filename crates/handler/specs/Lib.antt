@@ -7,3 +7,4 @@ pub mod Kept
 pub mod Refusals
 pub mod Sending
 pub mod Table
+pub mod Written

@@ -1,14 +1,17 @@
 // What reports and lines are written into before they are sent.
-ghost use Rattle.std.specs.Prelude.{◌≡◌, ◌≤◌, ◌<◌, ◌^◌, ◌∷◌, [], ℕ, length, take, IfOk, OnOk, OnErr};
+ghost use Rattle.std.specs.Prelude.{◌≡◌, ◌≤◌, ◌<◌, ◌^◌, ◌∷◌, [], ℕ, length, take, IfNone, IfSome, IfOk, OnOk, OnErr};
 ghost use Rattle.handler.specs.Sending.{BreaksIn, SendsLines};
 ghost use Rattle.pst_model.specs.Answers.{reply};
 ghost use Rattle.pst_model.specs.Output.{output_line};
 ghost use Rattle.pst_model.specs.Reports.{report_packet, verdict_report};
-ghost use Rattle.pst_model.specs.Rules.{OutputKind};
+ghost use Rattle.pst_model.specs.Rules.{OutputKind, Reply};
 
+use crate::content::write_content;
 use crate::sending::send_line;
+use crate::table::MemTable;
 use board::{Board, Failed};
 use pus_report::{Head, Verdict, write_verdict};
+use pus_request::Items;
 use std::alloc::{AllocError, Global};
 
 /// The octets of the longest report.
@@ -30,6 +33,12 @@ pub struct Buffers {
 }
 
 impl Buffers {
+    ghost use Rattle.handler.specs.Content.{HoldsReport};
+    ghost use Rattle.handler.specs.Written.{written_in};
+    ghost use Rattle.handler.specs.Table.{table_of};
+    ghost use Rattle.pst_model.specs.Contents.{content_report};
+    ghost use Rattle.pus_request.specs.View.{listed};
+
     /// Empty buffers.
     pub fn new(alloc: Global) -> Result<Buffers, AllocError> {
         Ok(Buffers {
@@ -57,11 +66,24 @@ impl Buffers {
         send_line(board, channel, packet, &mut self.line)
     }
 
+    /// Sends the report of so many octets, at most 1,024, that was written, and answers the octets of its line.
+    pub fn send_report<B: Board>(&mut self, board: &mut B, size: u32) -> Result<u32, Failed>
+        requires short { size ≤ 1024 }
+        ensures octets { IfOk result (λ octets. octets ≡ length (output_line 0 (take size (written_in self.old)))) }
+        ensures few { IfOk result (λ octets. octets ≤ 8195) }
+        ensures sends { OnOk result ((number : ℕ) → SendsLines B.device B.moment B.sent B.counts board.old board.new
+            (record { command = number; kind = Reply; channel = 0; packet = take size (written_in self.old) } ∷ [])) }
+        ensures breaks { OnErr result ((number : ℕ) → BreaksIn B.device B.moment B.sent B.counts board.old board.new
+            (record { command = number; kind = Reply; channel = 0; packet = take size (written_in self.old) } ∷ [])) }
+    {
+        send_line(board, REPORTS, &self.report[..size as usize], &mut self.line)
+    }
+
     // Writes the report of a verdict, and answers its length.
     fn write_verdict(&mut self, head: Head, verdict: Verdict, request: [u8; 4]) -> u32
         requires count { head.count < 16384 }
         requires moment { head.moment < 2 ^ 48 }
-        ensures front { take result self.new.report.items ≡ report_packet head.count head.moment (verdict_report request verdict) }
+        ensures front { take result (written_in self.new) ≡ report_packet head.count head.moment (verdict_report request verdict) }
         ensures short { result ≤ 1024 }
     {
         write_verdict(head, verdict, request, &mut self.report)
@@ -85,11 +107,16 @@ impl Buffers {
             (reply number head.moment head.count (verdict_report request verdict) ∷ [])) }
     {
         let length = self.write_verdict(head, verdict, request);
-        send_line(
-            board,
-            REPORTS,
-            &self.report[..length as usize],
-            &mut self.line,
-        )
+        self.send_report(board, length)
+    }
+
+    /// Writes the content report on instructions, where there is one, and answers its length.
+    pub fn write_content(&mut self, table: &MemTable, items: &Items<'_>, head: Head) -> Option<u32>
+        requires count { head.count < 16384 }
+        requires moment { head.moment < 2 ^ 48 }
+        ensures none { IfNone result (content_report (listed items.now) (table_of table.now) ≡ []) }
+        ensures some { IfSome result (HoldsReport (content_report (listed items.now) (table_of table.now)) head (written_in self.new)) }
+    {
+        write_content(table, items, head, &mut self.report)
     }
 }

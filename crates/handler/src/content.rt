@@ -1,10 +1,11 @@
 // The content report on the instructions of a request.
-ghost use Rattle.std.specs.Prelude.{◌≡◌, ◌≤◌, ◌<◌, ◌^◌, [], length, IfNone, IfSome};
+ghost use Rattle.std.specs.Prelude.{◌≡◌, ◌≤◌, ◌<◌, ◌^◌, [], All, length, IfNone, IfSome};
+ghost use Rattle.std.specs.List.{flat_map};
 ghost use Rattle.pus_request.specs.View.{listed};
-ghost use Rattle.pst_model.specs.Contents.{content_report, summary_asked};
+ghost use Rattle.pst_model.specs.Contents.{content_report, summary_asked, summary_by};
+ghost use Rattle.pst_model.specs.Reports.{HasTimes};
 ghost use Rattle.handler.specs.Content.{HoldsReport};
 ghost use Rattle.handler.specs.Table.{table_of};
-ghost use Rattle.std.specs.List.{flat_map};
 
 use crate::table::MemTable;
 use arrayvec::ArrayVec;
@@ -19,7 +20,8 @@ type Rows = ArrayVec<SummaryRow, 32>;
 
 // The summaries that are asked for of stores that stand.
 fn summaries(table: &MemTable, items: &Items<'_>) -> Rows
-    ensures { result.items ≡ flat_map (summary_asked (table_of table.now).stores) (listed items.now) }
+    ensures rows { result.items ≡ flat_map (summary_asked (table_of table.now).stores) (listed items.now) }
+    ensures times { All HasTimes result.items }
 {
     let mut rows = Rows::new();
     for at in 0..items.len() {

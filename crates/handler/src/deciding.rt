@@ -1,9 +1,9 @@
 // What a request does to the table, and what answers it.
-ghost use Rattle.std.specs.Prelude.{◌≡◌, ◌++◌, ℕ};
+ghost use Rattle.std.specs.Prelude.{◌≡◌, ℕ, false};
 ghost use Rattle.space_packet.specs.View.{octets_of};
-ghost use Rattle.pus_request.specs.View.{listed};
-ghost use Rattle.pst_model.specs.Answers.{answer, carry_out, on_request, replied};
-ghost use Rattle.handler.specs.Asked.{content_asked};
+ghost use Rattle.pus_request.specs.View.{asked, listed};
+ghost use Rattle.pst_model.specs.Answers.{answer, carry_out, identifier_of, is_pending, replied};
+ghost use Rattle.handler.specs.Asked.{reports_in};
 ghost use Rattle.handler.specs.Table.{table_of};
 
 use crate::judging::judge;
@@ -25,6 +25,7 @@ pub struct Decision<'a> {
 
 // Carries out instructions in their order, and tells which failed.
 fn carry_out_all(table: &mut MemTable, items: &Items<'_>) -> Failures
+    requires { is_pending (asked items.now).0 (asked items.now).1 ≡ false }
     ensures { carry_out (listed items.now) (table_of table.old) ≡ record { table = table_of table.new; failures = result.items } }
 {
     let mut failures = Failures::new();
@@ -39,8 +40,7 @@ fn carry_out_all(table: &mut MemTable, items: &Items<'_>) -> Failures
 /// Judges a request, carries out its instructions where no judgement refuses it, and tells what answers it.
 pub fn decide<'a>(table: &mut MemTable, packet: PacketView<'a>) -> Decision<'a>
     ensures { (number moment : ℕ) → answer number moment (octets_of packet.entry) (table_of table.old)
-        ≡ replied number moment (table_of table.new) (on_request (octets_of packet.entry) result.before.items
-        ++ content_asked result.asked (table_of table.new) ++ on_request (octets_of packet.entry) result.after.items) }
+        ≡ replied number moment (table_of table.new) (reports_in (identifier_of (octets_of packet.entry)) result (table_of table.new)) }
 {
     match judge(packet) {
         Ok(request) => {

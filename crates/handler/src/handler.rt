@@ -9,12 +9,15 @@ use crate::buffers::Buffers;
 use crate::deciding::decide;
 use crate::fault::HandlerFault;
 use crate::judging::identifier_of;
-use crate::replies::send_verdicts;
+use crate::replies::send_answer;
 use crate::sent::Sent;
 use crate::table::{CHANNEL, MemTable};
 use board::{Board, Failed};
 use space_packet::PacketView;
 use std::alloc::{AllocError, Global};
+
+/// The channel of forwarded packets.
+const FORWARDED: u8 = 0;
 
 /// The table in memory with what it takes to carry out commands on it. It is open until the link fails.
 #[derive(Drop)]
@@ -74,8 +77,9 @@ impl Handler {
         self.open
     }
 
-    /// Carries out the arrival of a packet at a moment below 2^48, of which no line goes out: the table
-    /// has no forward pattern. `NoMemory`: nothing of it was done.
+    /// Carries out the arrival of a packet at a moment below 2^48, and forwards it on channel 0 where a forward
+    /// pattern covers its key. `NoMemory`: nothing of it was done. `Link`: the link failed, and the handler
+    /// is closed.
     pub fn arrival<B: Board>(
         &mut self,
         alloc: Global,
@@ -90,12 +94,24 @@ impl Handler {
         ensures counted { IfOk result (λ sent. (number : ℕ) → IsCountOf (arrive number moment (octets_of packet.entry) (table_in self.old)).outputs sent) }
         ensures breaks { OnLink result ((number : ℕ) → BreaksIn B.device B.moment B.sent B.counts board.old board.new (arrive number moment (octets_of packet.entry) (table_in self.old)).outputs) }
         ensures nothing { OnNoMemory result ((board.new ≡ board.old) × (table_in self.new ≡ table_in self.old)) }
-        ensures faults { OnErr result (result ≡ Err HandlerFault.NoMemory) }
-        ensures open { is_open self.new ≡ true }
+        ensures open { OnOk result (is_open self.new ≡ true) }
+        ensures closed { OnLink result (is_open self.new ≡ false) }
+        ensures stays_open { OnNoMemory result (is_open self.new ≡ true) }
     {
-        match self.table.arrival(alloc, moment, packet) {
-            Ok(()) => Ok(Sent::default()),
-            Err(_) => Err(HandlerFault::NoMemory),
+        let forwarded = self.table.forwards(&packet);
+        if self.table.arrival(alloc, moment, packet).is_err() {
+            return Err(HandlerFault::NoMemory);
+        }
+        if !forwarded {
+            return Ok(Sent::default());
+        }
+        match self.buffers.send(board, FORWARDED, packet.bytes()) {
+            Ok(octets) => Ok(Sent {
+                forwarded: 1,
+                octets: u64::from(octets),
+                ..Sent::default()
+            }),
+            Err(_) => Err(self.close()),
         }
     }
 
@@ -118,15 +134,15 @@ impl Handler {
         ensures faults { OnErr result (result ≡ Err HandlerFault.Link) }
         ensures open { is_open self.new ≡ is_ok result }
     {
-        let verdicts = decide(&mut self.table, packet);
+        let decision = decide(&mut self.table, packet);
         let identifier = identifier_of(packet);
-        match send_verdicts(
+        match send_answer(
             board,
             &mut self.table,
             &mut self.buffers,
             moment,
             identifier,
-            verdicts.as_slice(),
+            &decision,
         ) {
             Ok(sent) => Ok(sent),
             Err(_) => Err(self.close()),

@@ -1,9 +1,9 @@
 // The judgements that come before a request's instructions.
-ghost use Rattle.std.specs.Prelude.{◌≡◌, None, Some, take, MatchResult};
+ghost use Rattle.std.specs.Prelude.{◌≡◌, None, Some, false, take, MatchResult};
 ghost use Rattle.space_packet.specs.View.{octets_of};
-ghost use Rattle.pus_header.specs.Commands.{acks_of, subtype_of};
-ghost use Rattle.pus_request.specs.View.{listed};
-ghost use Rattle.pst_model.specs.Answers.{data_in, header_refusal, identifier_of, refusal_of, request_refusal};
+ghost use Rattle.pus_header.specs.Commands.{acks_of, service_of, subtype_of};
+ghost use Rattle.pus_request.specs.View.{asked, listed};
+ghost use Rattle.pst_model.specs.Answers.{data_in, header_refusal, identifier_of, is_pending, refusal_of, request_refusal};
 ghost use Rattle.pst_model.specs.Requests.{items_in};
 
 use pst_model::{RequestFault, Verdict};
@@ -13,6 +13,9 @@ use space_packet::PacketView;
 
 /// The APID of this program.
 const APID: u16 = 10;
+
+/// The service of storage and retrieval.
+const STORAGE: u8 = 15;
 
 // The codes of the judgements, in their order.
 const WRONG_APID: u8 = 1;
@@ -67,6 +70,13 @@ fn request_refusal(fault: RequestFault) -> Verdict
     }
 }
 
+// Whether requests of this service and subtype are known and not carried out yet.
+fn is_pending(service: u8, subtype: u8) -> bool
+    ensures { result ≡ is_pending service subtype }
+{
+    service == STORAGE && matches!(subtype, 9 | 11 | 14 | 17 | 20 | 21 | 24 | 25 | 26 | 27 | 28)
+}
+
 /// The request identifier of a packet, as reports on it name it: its first four octets.
 pub fn identifier_of(packet: PacketView<'_>) -> [u8; 4]
     ensures { result ≡ identifier_of (octets_of packet.entry) }
@@ -78,7 +88,9 @@ pub fn identifier_of(packet: PacketView<'_>) -> [u8; 4]
 /// The request that a packet is, or the first judgement that refuses it.
 pub fn judge<'a>(packet: PacketView<'a>) -> Result<Request<'a>, Verdict>
     ensures { let octets = octets_of packet.entry in MatchResult result
-        (λ request. (refusal_of octets ≡ None) × (request.acks ≡ acks_of octets) × (listed request.items ≡ items_in (subtype_of octets) (data_in octets)))
+        (λ request. (refusal_of octets ≡ None) × (request.acks ≡ acks_of octets)
+            × (listed request.items ≡ items_in (service_of octets) (subtype_of octets) (data_in octets))
+            × (is_pending (asked request.items).0 (asked request.items).1 ≡ false))
         (λ verdict. refusal_of octets ≡ Some verdict) }
 {
     if packet.apid() != APID {
@@ -91,6 +103,11 @@ pub fn judge<'a>(packet: PacketView<'a>) -> Result<Request<'a>, Verdict>
         Ok(command) => command,
         Err(fault) => return Err(header_refusal(fault)),
     };
+    if is_pending(command.service(), command.subtype()) {
+        return Err(request_refusal(RequestFault::UnknownSubtype(
+            command.subtype(),
+        )));
+    }
     match read_request(&command) {
         Ok(items) => Ok(Request {
             acks: command.acks(),

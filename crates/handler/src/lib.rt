@@ -3,6 +3,7 @@
 #![tactic(auto)]
 
 mod buffers;
+mod content;
 mod deciding;
 mod fault;
 mod handler;

@@ -8,7 +8,7 @@ use space_packet::charge;
 use std::collections::VecDeque;
 
 /// The size of the boot store, in pages.
-const SIZE: u32 = 64;
+pub(crate) const SIZE: u32 = 64;
 
 /// A stored packet, with its storage time in 1/65,536 s.
 #[derive(Drop)]

@@ -2,15 +2,18 @@
 ghost use Rattle.std.specs.Prelude.{◌≡◌, ◌≤◌, ◌<◌, ◌^◌, ℕ, map, length, IfOk, OnOk, OnErr};
 ghost use Rattle.pst_model.specs.Answers.{replied};
 ghost use Rattle.pst_model.specs.Reports.{verdict_report};
-ghost use Rattle.handler.specs.Counting.{IsCountOf};
+ghost use Rattle.handler.specs.Asked.{content_asked, reports_in};
+ghost use Rattle.handler.specs.Counting.{IsCountOf, IsSmall};
 ghost use Rattle.handler.specs.Sending.{BreaksIn, SendsLines};
 ghost use Rattle.handler.specs.Table.{table_of};
 
 use crate::buffers::Buffers;
+use crate::deciding::Decision;
 use crate::sent::Sent;
 use crate::table::MemTable;
 use board::{Board, Failed};
 use pus_report::{Head, Verdict};
+use pus_request::Items;
 
 /// Sends the reports of at most 34 verdicts on the request with this identifier, and counts them. The moment
 /// is below 2^48.
@@ -28,6 +31,7 @@ pub fn send_verdicts<B: Board>(
     ensures sends { OnOk result ((number : ℕ) → SendsLines B.device B.moment B.sent B.counts board.old board.new
         (replied number moment (table_of table.old) (map (verdict_report request) verdicts.now)).outputs) }
     ensures counted { IfOk result (λ sent. (number : ℕ) → IsCountOf (replied number moment (table_of table.old) (map (verdict_report request) verdicts.now)).outputs sent) }
+    ensures small { IfOk result IsSmall }
     ensures breaks { OnErr result ((number : ℕ) → BreaksIn B.device B.moment B.sent B.counts board.old board.new
         (replied number moment (table_of table.old) (map (verdict_report request) verdicts.now)).outputs) }
 {
@@ -43,4 +47,63 @@ pub fn send_verdicts<B: Board>(
         sent.octets += u64::from(octets);
     }
     Ok(sent)
+}
+
+/// Sends the content report on instructions, where there is one. The moment is below 2^48.
+pub fn send_content<B: Board>(
+    board: &mut B,
+    table: &mut MemTable,
+    buffers: &mut Buffers,
+    moment: u64,
+    asked: Option<Items<'_>>,
+) -> Result<Sent, Failed>
+    requires { moment < 2 ^ 48 }
+    ensures table { OnOk result ((number : ℕ) → table_of table.new ≡ (replied number moment (table_of table.old) (content_asked asked (table_of table.old))).table) }
+    ensures sends { OnOk result ((number : ℕ) → SendsLines B.device B.moment B.sent B.counts board.old board.new
+        (replied number moment (table_of table.old) (content_asked asked (table_of table.old))).outputs) }
+    ensures counted { IfOk result (λ sent. (number : ℕ) → IsCountOf (replied number moment (table_of table.old) (content_asked asked (table_of table.old))).outputs sent) }
+    ensures small { IfOk result IsSmall }
+    ensures breaks { OnErr result ((number : ℕ) → BreaksIn B.device B.moment B.sent B.counts board.old board.new
+        (replied number moment (table_of table.old) (content_asked asked (table_of table.old))).outputs) }
+{
+    let Some(items) = asked else {
+        return Ok(Sent::default());
+    };
+    let head = Head {
+        count: table.count(),
+        moment,
+    };
+    let Some(length) = buffers.write_content(table, &items, head) else {
+        return Ok(Sent::default());
+    };
+    let octets = buffers.send_report(board, length)?;
+    table.report();
+    Ok(Sent {
+        replies: 1,
+        octets: u64::from(octets),
+        ..Sent::default()
+    })
+}
+
+/// Sends all that answers the request with this identifier, in its order. The moment is below 2^48.
+pub fn send_answer<B: Board>(
+    board: &mut B,
+    table: &mut MemTable,
+    buffers: &mut Buffers,
+    moment: u64,
+    request: [u8; 4],
+    decision: &Decision<'_>,
+) -> Result<Sent, Failed>
+    requires { moment < 2 ^ 48 }
+    ensures table { OnOk result ((number : ℕ) → table_of table.new ≡ (replied number moment (table_of table.old) (reports_in request decision.now (table_of table.old))).table) }
+    ensures sends { OnOk result ((number : ℕ) → SendsLines B.device B.moment B.sent B.counts board.old board.new
+        (replied number moment (table_of table.old) (reports_in request decision.now (table_of table.old))).outputs) }
+    ensures counted { IfOk result (λ sent. (number : ℕ) → IsCountOf (replied number moment (table_of table.old) (reports_in request decision.now (table_of table.old))).outputs sent) }
+    ensures breaks { OnErr result ((number : ℕ) → BreaksIn B.device B.moment B.sent B.counts board.old board.new
+        (replied number moment (table_of table.old) (reports_in request decision.now (table_of table.old))).outputs) }
+{
+    let first = send_verdicts(board, table, buffers, moment, request, decision.before.as_slice())?;
+    let content = send_content(board, table, buffers, moment, decision.asked)?;
+    let last = send_verdicts(board, table, buffers, moment, request, decision.after.as_slice())?;
+    Ok(first.and(content, last))
 }

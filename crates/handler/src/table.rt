@@ -4,6 +4,8 @@ ghost use Rattle.std.specs.VecDeque.{deque_capacity};
 ghost use Rattle.pst_model.specs.Table.{content_in};
 ghost use Rattle.handler.specs.Kept.{IsKept, leaving, packets_of};
 
+mod rows;
+
 use crate::packets::{Packet, make_room};
 use crate::refusal::{BOOT_STORE, Refusal, add_pattern, delete_pattern, find_store, set_flag};
 use control_defs::{Instruction, Pattern, Patterns};
