@@ -76,7 +76,7 @@ abbrev pub summary_octets : SummaryRow → List ℕ
 summary_octets row =
     big_bytes 2 row.store ++ big_bytes 4 row.packets ++ big_bytes 4 row.pages ++ big_bytes 6 row.oldest ++ big_bytes 6 row.newest ++ big_bytes 4 row.ahead
 
--- the times in it have six octets each
+-- the times of a store have six octets each
 pub record HasTimes (row : SummaryRow) : Type 0 where
   pub oldest : row.oldest < 2 ^ 48
   pub newest : row.newest < 2 ^ 48

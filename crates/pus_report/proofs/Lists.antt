@@ -11,7 +11,8 @@ use Rattle.pst_model.specs.PatternOctets.{pattern_octets}
 use Rattle.pst_model.specs.Reports.{listed_octets}
 
 -- The first rows are written, behind the number of all, and the next one's place is behind them.
-pub record Listed {X : Type 0} (octets : X → List ℕ) (size : ℕ) (rows : List X) (old new : List ℕ) (at place done : ℕ) : Type 0 where
+pub record Listed {X : Type 0} (octets : X → List ℕ) (size : ℕ) (rows : List X) (old new : List ℕ)
+    (at place done : ℕ) : Type 0 where
   pub behind : place ≡ at + 1 + size * done
   pub written : Writes old new at (length rows ∷ flat_map octets (take done rows))
 
@@ -26,7 +27,7 @@ flat_map-more octets rows i d h =
 
 module _ {X : Type 0} (octets : X → List ℕ) (size : ℕ) (each : (row : X) → length (octets row) ≡ size) where
   -- how long they are in all
-  pub length-rows : (rows : List X) → length (flat_map octets rows) ≡ size * length rows
+  length-rows : (rows : List X) → length (flat_map octets rows) ≡ size * length rows
   length-rows [] = omega arith
   length-rows (row ∷ rows) = omega (arith, length-append (octets row) (flat_map octets rows), each row, length-rows rows)
 
@@ -36,7 +37,8 @@ module _ {X : Type 0} (octets : X → List ℕ) (size : ℕ) (each : (row : X) �
 
   -- one more row is written at its place
   pub Listed-more : (rows : List X) (d : X) {old mid new : List ℕ} {at place next done : ℕ} → done < length rows
-      → Listed octets size rows old mid at place done → Writes mid new place (octets (get_or rows done d)) → next ≡ place + size
+      → Listed octets size rows old mid at place done → Writes mid new place (octets (get_or rows done d))
+      → next ≡ place + size
       → Listed octets size rows old new at next (done + 1)
   Listed-more rows d {old} {mid} {new} {at} {place} {next} {done} here before row moved =
       let behind = before.behind in

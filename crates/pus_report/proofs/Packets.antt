@@ -17,12 +17,14 @@ written-packet old new count moment subtype size report kind total written =
     ∙ ap (λ (s : ℕ). head s (length report.content) ++ drop (length (head s (length report.content))) old) kind
 
 -- how long it is
-pub length-report : (count moment : ℕ) (report : Report) → length (report_packet count moment report) ≡ 19 + length report.content
+pub length-report : (count moment : ℕ) (report : Report)
+    → length (report_packet count moment report) ≡ 19 + length report.content
 length-report count moment report =
     omega (arith, length-append (report_head count report.service report.subtype moment (length report.content)) report.content)
 
 -- it is a packet, where its content is short enough
-pub IsPacket-report : (count moment : ℕ) (report : Report) → count < 16384 → length report.content ≤ 4077 → IsPacket (report_packet count moment report)
+pub IsPacket-report : (count moment : ℕ) (report : Report) → count < 16384 → length report.content ≤ 4077
+    → IsPacket (report_packet count moment report)
 IsPacket-report count moment report counted short =
     let long = length-report count moment report in record {
       at_least = omega (arith, long);

@@ -18,6 +18,5 @@ pub use status::write_status;
 pub use summary::write_summary;
 pub use verdicts::write_verdict;
 
-
 #[cfg(test)]
 mod tests;

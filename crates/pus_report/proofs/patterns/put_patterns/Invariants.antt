@@ -1,5 +1,5 @@
-use Rattle.pus_report.proofs.Lists.{Listed}
 use Rattle.pst_model.specs.PatternOctets.{pattern_octets}
+use Rattle.pus_report.proofs.Lists.{Listed}
 use Rattle.pus_report.proofs.patterns.put_patterns.Given as goal
 
 abbrev pub invariant-loop-pattern : goal.invariant-loop-pattern

@@ -1,5 +1,5 @@
-use Rattle.pus_report.proofs.Lists.{Listed}
 use Rattle.pst_model.specs.Reports.{status_octets}
+use Rattle.pus_report.proofs.Lists.{Listed}
 use Rattle.pus_report.proofs.status.put_statuses.Given as goal
 
 abbrev pub invariant-loop-row : goal.invariant-loop-row

@@ -1,5 +1,5 @@
-use Rattle.pus_report.proofs.Lists.{Listed}
 use Rattle.pst_model.specs.Reports.{summary_octets}
+use Rattle.pus_report.proofs.Lists.{Listed}
 use Rattle.pus_report.proofs.summary.put_summaries.Given as goal
 
 abbrev pub invariant-loop-row : goal.invariant-loop-row
