@@ -6,6 +6,7 @@ use Rattle.space_packet.specs.Charge.{charge_of}
 use Rattle.space_packet.specs.Packet.{apid_of}
 use Rattle.control_defs.specs.declared.patterns.Pattern.{Pattern}
 use Rattle.pus_header.specs.Keys.{key_of}
+use Rattle.handler.specs.Forwarding.{forwarded}
 use Rattle.handler.specs.Table.{is_chosen, store_of, table_with}
 use Rattle.pst_model.specs.Rules.{Output, Step, Taken, any_covers, arrive, behind_put, free_of, is_refused, offered, put, to_drop}
 use Rattle.pst_model.specs.Table.{Store, Stored, Table, boot_store}
@@ -54,3 +55,16 @@ module _ (forward types : List Pattern) (storage open_on : Bool) (packets : List
       let offer : offered stored store ≡ behind_put store (put store stored) = cond-true _ _ _ (and_from storage (any_covers types (key_of packet)) parts.0 chosen.1) in
       ap (λ (step : Step). step.table) (cond-false (apid_of packet == 2047) _ _ (not-true (apid_of packet == 2047) chosen.0))
       ∙ ap (table_with (max now moment) reports forward) (offer ∙ ap (behind_put store) (put-is stored le))
+
+-- what goes out of an arrival, where it is forwarded and where it is not
+pub sent_on : (table : Table) (packet : List ℕ) → is_chosen table.forward packet ≡ true → (number moment : ℕ) → (arrive number moment packet table).outputs ≡ forwarded number packet
+sent_on table packet is number moment =
+    let parts = and_parts (not (apid_of packet == 2047)) (any_covers table.forward (key_of packet)) is in
+    ap (λ (step : Step). step.outputs) (cond-false (apid_of packet == 2047) _ _ (not-true (apid_of packet == 2047) parts.0))
+    ∙ cond-true (any_covers table.forward (key_of packet)) _ _ parts.1
+
+pub kept_back : (table : Table) (packet : List ℕ) → is_chosen table.forward packet ≡ false → (number moment : ℕ) → (arrive number moment packet table).outputs ≡ []
+kept_back table packet is number moment =
+    cond_both (apid_of packet == 2047) _ _ (λ (step : Step). step.outputs ≡ [])
+    (λ idle. refl)
+    (λ other. cond-false (any_covers table.forward (key_of packet)) _ _ (ap (λ (idle : Bool). not idle && any_covers table.forward (key_of packet)) (sym other) ∙ is))

@@ -2,6 +2,7 @@ pub mod Asked
 pub mod Content
 pub mod Counting
 pub mod Faults
+pub mod Forwarding
 pub mod Handler
 pub mod Kept
 pub mod Refusals

@@ -1,7 +1,9 @@
 // The handler of commands.
 ghost use Rattle.std.specs.Prelude.{◌≡◌, ◌<◌, ◌^◌, ℕ, Err, true, false, is_ok, IsOk, IsTrue, IfOk, OnOk, OnErr};
+ghost use Rattle.space_packet.specs.View.{octets_of};
 ghost use Rattle.pst_model.specs.Rules.{grant};
 ghost use Rattle.handler.specs.Counting.{IsCountOf};
+ghost use Rattle.handler.specs.Forwarding.{forwarded};
 ghost use Rattle.handler.specs.Sending.{BreaksIn, SendsLines};
 ghost use Rattle.handler.specs.Table.{table_of};
 
@@ -25,6 +27,24 @@ pub struct Handler {
     table: MemTable,
     buffers: Buffers,
     open: bool,
+}
+
+// Forwards a packet.
+fn send_forwarded<B: Board>(
+    board: &mut B,
+    buffers: &mut Buffers,
+    packet: PacketView<'_>,
+) -> Result<Sent, Failed>
+    ensures sends { OnOk result ((number : ℕ) → SendsLines B.device B.moment B.sent B.counts board.old board.new (forwarded number (octets_of packet.entry))) }
+    ensures counted { IfOk result (λ sent. (number : ℕ) → IsCountOf (forwarded number (octets_of packet.entry)) sent) }
+    ensures breaks { OnErr result ((number : ℕ) → BreaksIn B.device B.moment B.sent B.counts board.old board.new (forwarded number (octets_of packet.entry))) }
+{
+    let octets = buffers.send(board, FORWARDED, packet.bytes())?;
+    Ok(Sent {
+        forwarded: 1,
+        octets: u64::from(octets),
+        ..Sent::default()
+    })
 }
 
 // Sends the packet that the next grant sends, where there is one, and goes past it.
@@ -51,7 +71,6 @@ fn send_next<B: Board>(
 }
 
 impl Handler {
-    ghost use Rattle.space_packet.specs.View.{octets_of};
     ghost use Rattle.pst_model.specs.Answers.{answer};
     ghost use Rattle.pst_model.specs.Rules.{arrive};
     ghost use Rattle.pst_model.specs.Table.{after_format};
@@ -99,18 +118,15 @@ impl Handler {
         ensures stays_open { OnNoMemory result (is_open self.new ≡ true) }
     {
         let forwarded = self.table.forwards(&packet);
-        if self.table.arrival(alloc, moment, packet).is_err() {
-            return Err(HandlerFault::NoMemory);
+        match self.table.arrival(alloc, moment, packet) {
+            Ok(()) => {}
+            Err(_) => return Err(HandlerFault::NoMemory),
         }
         if !forwarded {
             return Ok(Sent::default());
         }
-        match self.buffers.send(board, FORWARDED, packet.bytes()) {
-            Ok(octets) => Ok(Sent {
-                forwarded: 1,
-                octets: u64::from(octets),
-                ..Sent::default()
-            }),
+        match send_forwarded(board, &mut self.buffers, packet) {
+            Ok(sent) => Ok(sent),
             Err(_) => Err(self.close()),
         }
     }

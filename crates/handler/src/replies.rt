@@ -58,13 +58,13 @@ pub fn send_content<B: Board>(
     asked: Option<Items<'_>>,
 ) -> Result<Sent, Failed>
     requires { moment < 2 ^ 48 }
-    ensures table { OnOk result ((number : ℕ) → table_of table.new ≡ (replied number moment (table_of table.old) (content_asked asked (table_of table.old))).table) }
+    ensures table { OnOk result ((number : ℕ) → table_of table.new ≡ (replied number moment (table_of table.old) (content_asked asked.entry (table_of table.old))).table) }
     ensures sends { OnOk result ((number : ℕ) → SendsLines B.device B.moment B.sent B.counts board.old board.new
-        (replied number moment (table_of table.old) (content_asked asked (table_of table.old))).outputs) }
-    ensures counted { IfOk result (λ sent. (number : ℕ) → IsCountOf (replied number moment (table_of table.old) (content_asked asked (table_of table.old))).outputs sent) }
+        (replied number moment (table_of table.old) (content_asked asked.entry (table_of table.old))).outputs) }
+    ensures counted { IfOk result (λ sent. (number : ℕ) → IsCountOf (replied number moment (table_of table.old) (content_asked asked.entry (table_of table.old))).outputs sent) }
     ensures small { IfOk result IsSmall }
     ensures breaks { OnErr result ((number : ℕ) → BreaksIn B.device B.moment B.sent B.counts board.old board.new
-        (replied number moment (table_of table.old) (content_asked asked (table_of table.old))).outputs) }
+        (replied number moment (table_of table.old) (content_asked asked.entry (table_of table.old))).outputs) }
 {
     let Some(items) = asked else {
         return Ok(Sent::default());

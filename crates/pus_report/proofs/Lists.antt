@@ -17,11 +17,11 @@ pub record Listed {X : Type 0} (octets : X → List ℕ) (size : ℕ) (rows : Li
   pub written : Writes old new at (length rows ∷ flat_map octets (take done rows))
 
 -- one more row
-flat_map-more : {X : Type 0} (octets : X → List ℕ) (rows : List X) (i : ℕ) (d : X) → i < length rows
+pub flat_map-more : {X Y : Type 0} (octets : X → List Y) (rows : List X) (i : ℕ) (d : X) → i < length rows
     → flat_map octets (take i rows) ++ octets (get_or rows i d) ≡ flat_map octets (take (i + 1) rows)
-flat_map-more octets rows i d h =
+flat_map-more {X} {Y} octets rows i d h =
     let row = get_or rows i d in
-    ap (λ (ys : List ℕ). flat_map octets (take i rows) ++ ys) (sym (append-nil (octets row)))
+    ap (λ (ys : List Y). flat_map octets (take i rows) ++ ys) (sym (append-nil (octets row)))
     ∙ sym (flat_map-append octets (take i rows) (row ∷ []))
     ∙ ap (flat_map octets) (sym (take_more rows i d h))
 

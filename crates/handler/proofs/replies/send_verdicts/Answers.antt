@@ -57,6 +57,8 @@ loop-verdict-preserved g c =
           (counted_more _ c.loop-verdict.sent number c.args.moment (count_behind first at) (verdict_report c.args.request (get_or verdicts at Accepted)) c.from.result (so_far.counted number)
           (c.from.ensures ∙ c.in_ok-octets.ensures.octets
           ∙ ap (λ (n : ℕ). length (output_line 0 (report_packet n c.args.moment (verdict_report c.args.request (get_or verdicts at Accepted))))) count));
+      forwarded = so_far.forwarded;
+      retrieved = so_far.retrieved;
       replies = omega (arith, so_far.replies);
       octets = omega (arith, so_far.octets, c.in_ok-octets.ensures.few, c.from.ensures);
     }
@@ -66,3 +68,13 @@ returns-clause-sends g c number =
     let board = g.B.Board in
     subst (λ (l : List Verdict). SendsLines board.device board.moment board.sent board.counts c.args.board.now c.loop-verdict.board (replies_from number c.args.moment c.args.table.now.reports (map (verdict_report c.args.request) l)))
     (take_all c.loop-verdict.verdict-index c.args.verdicts.now (omega arith)) (c.loop-verdict.invariant.sends number)
+
+pub returns-clause-small : goal.returns-clause-small
+returns-clause-small g c =
+    let so_far = c.loop-verdict.invariant in
+    record {
+      forwarded = omega (arith, so_far.forwarded);
+      replies = omega (arith, so_far.replies);
+      retrieved = omega (arith, so_far.retrieved);
+      octets = omega (arith, so_far.octets);
+    }

@@ -14,6 +14,8 @@ invariant-loop-verdict g l =
       table : table_of l.table ≡ record (table_of l.fn.table) { reports = count_behind reports l.verdict-index };
       sends : (number : ℕ) → SendsLines board.device board.moment board.sent board.counts l.fn.board l.board (replies_from number l.moment reports (map (verdict_report l.request) (take l.verdict-index l.verdicts)));
       counted : (number : ℕ) → IsCountOf (replies_from number l.moment reports (map (verdict_report l.request) (take l.verdict-index l.verdicts))) l.sent;
+      forwarded : l.sent.forwarded ≡ 0;
+      retrieved : l.sent.retrieved ≡ 0;
       replies : l.sent.replies ≤ l.verdict-index;
       octets : l.sent.octets ≤ 8195 * l.verdict-index;
     }

@@ -1,6 +1,5 @@
-use Rattle.std.proofs.Common.{◌≡◌, ℕ, List, [], ◌∷◌, take, ◌∙◌, ap, subst}
+use Rattle.std.proofs.Common.{ℕ, List, [], ◌∷◌, subst}
 use Rattle.std.proofs.lemmas.Result.{on_err_weaker, on_ok_weaker}
-use Rattle.pst_model.specs.Reports.{report_packet, verdict_report}
 use Rattle.pst_model.specs.Rules.{Reply}
 use Rattle.handler.specs.Sending.{BreaksIn, SendsLines}
 use Rattle.handler.proofs.buffers.Buffers.send_verdict.Goals as goal
@@ -8,21 +7,17 @@ use Rattle.handler.proofs.buffers.Buffers.send_verdict.Goals as goal
 pub returns-clause-sends : goal.returns-clause-sends
 returns-clause-sends g c =
     let board = g.B.Board in
-    let written : take c.write_verdict-length.result c.deref.result.now ≡ report_packet c.args.head.count c.args.head.moment (verdict_report c.args.request c.args.verdict) =
-    ap (take c.write_verdict-length.result) c.deref.ensures.value ∙ c.write_verdict-length.ensures.front in
-    on_ok_weaker c.send_line.result
+    on_ok_weaker c.send_report.result
     (λ (sends : _) (number : ℕ).
-    subst (λ (packet : List ℕ). SendsLines board.device board.moment board.sent board.counts c.args.board.now c.send_line.new.board (record { command = number; kind = Reply; channel = 0; packet = packet } ∷ []))
-    written (sends number Reply))
-    c.send_line.ensures.sends
+    subst (λ (packet : List ℕ). SendsLines board.device board.moment board.sent board.counts c.args.board.now c.send_report.new.board (record { command = number; kind = Reply; channel = 0; packet = packet } ∷ []))
+    c.write_verdict-length.ensures.front (sends number))
+    c.send_report.ensures.sends
 
 pub returns-clause-breaks : goal.returns-clause-breaks
 returns-clause-breaks g c =
     let board = g.B.Board in
-    let written : take c.write_verdict-length.result c.deref.result.now ≡ report_packet c.args.head.count c.args.head.moment (verdict_report c.args.request c.args.verdict) =
-    ap (take c.write_verdict-length.result) c.deref.ensures.value ∙ c.write_verdict-length.ensures.front in
-    on_err_weaker c.send_line.result
+    on_err_weaker c.send_report.result
     (λ (breaks : _) (number : ℕ).
-    subst (λ (packet : List ℕ). BreaksIn board.device board.moment board.sent board.counts c.args.board.now c.send_line.new.board (record { command = number; kind = Reply; channel = 0; packet = packet } ∷ []))
-    written (breaks number Reply))
-    c.send_line.ensures.breaks
+    subst (λ (packet : List ℕ). BreaksIn board.device board.moment board.sent board.counts c.args.board.now c.send_report.new.board (record { command = number; kind = Reply; channel = 0; packet = packet } ∷ []))
+    c.write_verdict-length.ensures.front (breaks number))
+    c.send_report.ensures.breaks

@@ -1,0 +1,14 @@
+use Rattle.std.proofs.Common.{◌≡◌, ◌≤◌, All, length, take}
+use Rattle.std.specs.List.{flat_map}
+use Rattle.pus_request.specs.View.{listed}
+use Rattle.pst_model.specs.Contents.{summary_asked}
+use Rattle.pst_model.specs.Reports.{HasTimes}
+use Rattle.handler.specs.Table.{table_of}
+use Rattle.handler.proofs.content.summaries.Given as goal
+
+abbrev pub invariant-loop-at : goal.invariant-loop-at
+invariant-loop-at l = record {
+  rows : l.rows.items ≡ flat_map (summary_asked (table_of l.table).stores) (take l.at (listed l.items));
+  few : length l.rows.items ≤ l.at;
+  times : All HasTimes l.rows.items;
+}
