@@ -73,7 +73,7 @@ pair_of first second = rw (first, second) refl
 -- what is known of the items of one kind
 module _ (service subtype : ℕ) (kind : RequestKind) (found : kind_in service subtype ≡ Some kind) where
   -- data that is not malformed spells the instructions that are read
-  spelled-by_kind : (body : List ℕ) → AreOctets body → IsWhole kind body → SpellsRequest service subtype body (items_from kind (count_in kind body) (drop (front_of kind) body))
+  pub spelled-by_kind : (body : List ℕ) → AreOctets body → IsWhole kind body → SpellsRequest service subtype body (items_from kind (count_in kind body) (drop (front_of kind) body))
   spelled-by_kind body fit whole =
       let count = count_in kind body in
       let octets = drop (front_of kind) body in
@@ -240,6 +240,20 @@ length-data_of service subtype items asked kind found =
     let is : of.kind ≡ kind = cc in
     subst (λ (k : RequestKind). length (data_of items) ≡ place_of k (length items)) is
     (let whole = whole-data service subtype items asked of.kind of.are in whole.long ∙ ap (place_of of.kind) (data_is service subtype items asked of.kind of.are).count)
+
+-- what stands in front of its items
+pub count_octets-kind : (service subtype : ℕ) (items : List Instruction) → AreAsked service subtype items → (kind : RequestKind) → kind_in service subtype ≡ Some kind
+    → count_octets items ≡ (if kind.is_list then length items ∷ [] else [])
+count_octets-kind service subtype items asked kind found =
+    let of = AreOf-asked service subtype items asked in
+    let same : Some of.kind ≡ Some kind = sym of.found ∙ found in
+    let is : of.kind ≡ kind = cc in
+    let lone = are_alone-first (not of.kind.is_list) items asked.some (λ k d lt. (of.are k d lt).lone) in
+    count_octets-front of.kind.is_list items lone ∙ by of.kind.is_list ∙ ap (λ (k : RequestKind). if k.is_list then length items ∷ [] else []) is
+  where
+    by : (list : Bool) → front_octets list (length items) ≡ (if list then length items ∷ [] else [])
+    by true = refl
+    by false = refl
 
 front_few : (list : Bool) → (if list then 1 else 0) ≤ 1
 front_few true = omega arith

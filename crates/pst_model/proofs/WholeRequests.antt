@@ -8,7 +8,7 @@ use Rattle.pst_model.specs.Layouts.{RequestKind, is_wrong_in, width_of}
 use Rattle.pst_model.specs.Least.{first_below}
 use Rattle.pst_model.specs.Requests.{count_in, front_of, is_wrong_at, length_asked, malformed_at, place_of}
 use Rattle.pst_model.proofs.KindsRead.{IsRight}
-use Rattle.pst_model.proofs.Leasts.{first_below-none, none-below}
+use Rattle.pst_model.proofs.Leasts.{IsLeast-below, first_below-none, first_below-some, none-below}
 
 -- the first place, by the tests
 abbrev pub first_malformed : (count whole : Bool) (at : ℕ) (wrong : Option ℕ) → Option ℕ
@@ -79,9 +79,9 @@ right_items kind count body long right number before place within =
     let next : (number + 1) * width ≤ count * width = mul-le-mul_right width (omega arith) in
     sym (is_wrong_at-item kind body number place within) ∙ right (place_of kind number + place) (omega arith)
 
-pub right_places : (kind : RequestKind) (count : ℕ) (body : List ℕ) → length body ≡ place_of kind count → HasRightItems kind count body
-    → (place : ℕ) → place < length body → is_wrong_at kind body place ≡ false
-right_places kind count body long right place within = elim (cases_lt place (front_of kind)) [
+-- before the place of an item no octet is wrong, where none is in the items before it
+pub right_before : (kind : RequestKind) (count : ℕ) (body : List ℕ) → HasRightItems kind count body → (place : ℕ) → place < place_of kind count → is_wrong_at kind body place ≡ false
+right_before kind count body right place before = elim (cases_lt place (front_of kind)) [
   | inl front ↦
       and_left (nat_le (front_of kind) place)
       (is_wrong_in kind.fields (drop (place_of kind ((place - front_of kind) / width_of kind.fields)) body) ((place - front_of kind) % width_of kind.fields))
@@ -96,3 +96,25 @@ right_places kind count body long right place within = elim (cases_lt place (fro
       ap (is_wrong_at kind body) at ∙ is_wrong_at-item kind body number (inner % width) (mod-lt inner some)
       ∙ right number ((div-lt_iff_lt-mul some).1 (omega arith)) (inner % width) (mod-lt inner some)
 ]
+
+pub right_places : (kind : RequestKind) (count : ℕ) (body : List ℕ) → length body ≡ place_of kind count → HasRightItems kind count body
+    → (place : ℕ) → place < length body → is_wrong_at kind body place ≡ false
+right_places kind count body long right place within = right_before kind count body right place (omega arith)
+
+-- the first wrong octet of an item is the first of all, where none is wrong in the items before it
+pub first_wrong-item : (kind : RequestKind) (count number place : ℕ) (body : List ℕ) → length body ≡ place_of kind count → number < count → HasRightItems kind number body
+    → first_below (is_wrong_in kind.fields (drop (place_of kind number) body)) (width_of kind.fields) ≡ Some place
+    → first_below (is_wrong_at kind body) (length body) ≡ Some (place_of kind number + place)
+first_wrong-item kind count number place body long among right first =
+    let width = width_of kind.fields in
+    let start = place_of kind number in
+    let found = IsLeast-below (is_wrong_in kind.fields (drop start body)) width place first in
+    let inside = found.0 in
+    let next : (number + 1) * width ≤ count * width = mul-le-mul_right width (omega arith) in
+    first_below-some (is_wrong_at kind body) (length body) (start + place) (omega arith) (is_wrong_at-item kind body number place inside ∙ found.1.passes)
+    (λ earlier before. elim (cases_lt earlier start) [
+      | inl front ↦ right_before kind number body right earlier front
+      | inr behind ↦
+          let at : earlier ≡ start + (earlier - start) = omega arith in
+          ap (is_wrong_at kind body) at ∙ is_wrong_at-item kind body number (earlier - start) (omega arith) ∙ found.1.first (earlier - start) (omega arith)
+    ])

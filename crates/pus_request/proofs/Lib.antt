@@ -1,1 +1,4 @@
-pub mod Written
+pub mod Fields
+pub mod Rows
+pub mod Wrong
+pub mod WrittenItems

@@ -1,37 +1,34 @@
 // The items of a request, as a view of its data.
-ghost use Rattle.std.specs.Prelude.{◌≡◌, ◌<◌, ◌≤◌, None, Some, IsSome, true, length, slice_get, slice_index};
-ghost use Rattle.pst_model.specs.Requests.{SpellsRequest, is_known, items_in, length_asked, subtype_asked};
+ghost use Rattle.std.specs.Prelude.{◌≡◌, ◌<◌, ◌≤◌, ℕ, All, None, Some, length, slice_get};
+ghost use Rattle.control_defs.specs.Instructions.{IsInstruction};
+ghost use Rattle.pst_model.specs.Items.{kind_asked};
+ghost use Rattle.pst_model.specs.Requests.{SpellsRequest, malformed_at};
+ghost use Rattle.pus_request.specs.Kinds.{asked_by, row_of};
 
-use crate::kinds::{ITEM, item_at};
+use crate::kinds::Kind;
+use crate::spelled::item_at;
 use control_defs::Instruction;
 
-/// The octets in front of the items: their number.
-const COUNT: usize = 1;
-
-/// A list of 1 to 32 instructions of one kind, as the data of a request spells it.
+/// The instructions of one kind that the data of a request spells: a list of 1 to 32, or one alone.
 #[derive(Clone, Copy)]
 pub struct Items<'a> {
-    subtype: u8,
+    kind: Kind,
     body: &'a [u8],
-    ghost known: { is_known subtype ≡ true },
-    ghost some: { 1 ≤ slice_index body.now 0 },
-    ghost few: { slice_index body.now 0 ≤ 32 },
-    ghost whole: { length body.now ≡ length_asked body.now },
+    ghost faultless: { malformed_at (row_of kind) body.now ≡ None },
+    ghost octets: { All (λ (octet : ℕ). octet < 256) body.now },
 }
 
 impl<'a> Items<'a> {
-    ghost use Rattle.pus_request.specs.View.{listed};
+    ghost use Rattle.pus_request.specs.View.{asked, listed};
 
-    /// The view of data that is known to have no fault as that of a request of this subtype.
-    pub(crate) fn new(subtype: u8, body: &'a [u8]) -> Items<'a>
-        requires known { is_known subtype ≡ true }
-        requires some { 1 ≤ slice_index body.now 0 }
-        requires few { slice_index body.now 0 ≤ 32 }
-        requires whole { length body.now ≡ length_asked body.now }
-        ensures items { listed result ≡ items_in subtype body.now }
-        ensures spelled { SpellsRequest 15 subtype body.now (listed result) }
+    /// The view of data that is known to have no fault as that of a request of this kind.
+    pub(crate) fn new(kind: Kind, body: &'a [u8]) -> Items<'a>
+        requires { malformed_at (row_of kind) body.now ≡ None }
+        ensures kind { result.kind ≡ kind }
+        ensures body { result.body.now ≡ body.now }
+        ensures spelled { SpellsRequest (asked_by kind).0 (asked_by kind).1 body.now (listed result) }
     {
-        Items { subtype, body }
+        Items { kind, body }
     }
 
     /// How many instructions there are: 1 to 32.
@@ -40,15 +37,16 @@ impl<'a> Items<'a> {
         ensures some { 1 ≤ result }
         ensures few { result ≤ 32 }
     {
-        u32::from(self.body[0])
+        u32::from(self.kind.count_in(self.body))
     }
 
     /// The instruction at this place. Places are counted from 0.
     pub fn get(&self, at: u32) -> Instruction
         requires { at < length (listed self.now) }
         ensures item { slice_get (listed self.now) at ≡ Some result }
-        ensures known { IsSome (subtype_asked result) }
+        ensures lawful { IsInstruction result }
+        ensures kind { kind_asked result ≡ asked self.now }
     {
-        item_at(self.subtype, self.body, COUNT + ITEM * at as usize)
+        item_at(self.kind, self.body, self.kind.place_of(at as usize))
     }
 }

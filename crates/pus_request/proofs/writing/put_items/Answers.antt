@@ -1,11 +1,11 @@
 use Rattle.std.proofs.Common.{arith}
 use Rattle.octet_fields.proofs.Splices.{Writes-then}
 use Rattle.pst_model.proofs.RequestItems.{length-items_more, length-items_upto}
-use Rattle.pus_request.proofs.Written.{Writes-more_items}
+use Rattle.pus_request.proofs.WrittenItems.{Writes-more_items}
 use Rattle.pus_request.proofs.writing.put_items.Goals as goal
 
-pub put_item-place-requires : goal.put_item-place-requires
-put_item-place-requires c = omega (arith, length-items_upto)
+pub put_item-place-requires-clause-room : goal.put_item-place-requires-clause-room
+put_item-place-requires-clause-room c = omega (arith, length-items_upto)
 
 pub loop-item-preserved : goal.loop-item-preserved
 loop-item-preserved c = record {

@@ -1,0 +1,57 @@
+-- The kinds that the code knows stand in the table.
+use Rattle.std.proofs.Common.{◌≡◌, ℕ, List, Some, None, refl, sym, ◌∙◌, ap}
+use Rattle.control_defs.specs.declared.instructions.Instruction.{Instruction}
+use Rattle.pst_model.specs.Items.{kind_asked}
+use Rattle.pst_model.specs.Layouts.{kind_in}
+use Rattle.pst_model.specs.Requests.{SpellsRequest, items_by, malformed_at}
+use Rattle.pst_model.proofs.ItemOctets.{AreOctets}
+use Rattle.pst_model.proofs.KindsRead.{reader_found}
+use Rattle.pst_model.proofs.SpelledRequests.{spelled-by_kind}
+use Rattle.pst_model.proofs.WholeRequests.{whole-from_none}
+use Rattle.pus_request.specs.declared.kinds.Kind.{Kind}
+use Rattle.pus_request.specs.declared.kinds.Kind.TheVariants.{ForwardAdd, ForwardDelete, ForwardReport, Enable, Disable, AddTypes, DeleteTypes, ReportTypes, StartRange, DeleteUpTo, Summary, OpenFrom, Resume, Suspend, Abort, Status, Create, Remove, Configuration, Copy, Resize, ToCircular, ToBounded, Channel}
+use Rattle.pus_request.specs.Kinds.{asked_by, row_of}
+
+pub found-row : (kind : Kind) → kind_in (asked_by kind).0 (asked_by kind).1 ≡ Some (row_of kind)
+found-row ForwardAdd = refl
+found-row ForwardDelete = refl
+found-row ForwardReport = refl
+found-row Enable = refl
+found-row Disable = refl
+found-row AddTypes = refl
+found-row DeleteTypes = refl
+found-row ReportTypes = refl
+found-row StartRange = refl
+found-row DeleteUpTo = refl
+found-row Summary = refl
+found-row OpenFrom = refl
+found-row Resume = refl
+found-row Suspend = refl
+found-row Abort = refl
+found-row Status = refl
+found-row Create = refl
+found-row Remove = refl
+found-row Configuration = refl
+found-row Copy = refl
+found-row Resize = refl
+found-row ToCircular = refl
+found-row ToBounded = refl
+found-row Channel = refl
+
+pub pair_of : {a b c d : ℕ} → a ≡ b → c ≡ d → ◌≡◌ {A = ℕ × ℕ} (a, c) (b, d)
+pair_of first second = rw (first, second) refl
+
+-- a kind that is found by a service type and a message subtype has these
+pub asked-found : (kind : Kind) (service subtype : ℕ) → kind_in service subtype ≡ Some (row_of kind) → asked_by kind ≡ (service, subtype)
+asked-found kind service subtype found =
+    let own = reader_found (asked_by kind).0 (asked_by kind).1 (row_of kind) (found-row kind) in
+    let other = reader_found service subtype (row_of kind) found in
+    pair_of (sym own.1 ∙ other.1) (sym own.2 ∙ other.2)
+
+-- and so has an instruction for which requests of a kind ask
+pub row-asked : (item : Instruction) (kind : Kind) → kind_asked item ≡ asked_by kind → kind_in (kind_asked item).0 (kind_asked item).1 ≡ Some (row_of kind)
+row-asked item kind asks = ap (λ (asked : ℕ × ℕ). kind_in asked.0 asked.1) asks ∙ found-row kind
+
+-- data of a kind that is not malformed spells the instructions that are read
+pub spelled-view : (kind : Kind) (body : List ℕ) → AreOctets body → malformed_at (row_of kind) body ≡ None → SpellsRequest (asked_by kind).0 (asked_by kind).1 body (items_by body (Some (row_of kind)))
+spelled-view kind body fit none = spelled-by_kind (asked_by kind).0 (asked_by kind).1 (row_of kind) (found-row kind) body fit (whole-from_none (row_of kind) body none)

@@ -1,0 +1,8 @@
+use Rattle.std.proofs.Common.{refl}
+use Rattle.octet_fields.proofs.Splices.{Writes-then}
+use Rattle.pus_request.proofs.written.put_copy.Goals as goal
+
+pub returns-clause-item : goal.returns-clause-item
+returns-clause-item c =
+    let stores = Writes-then c.put_u16.ensures c.put_u16-2.ensures refl in
+    Writes-then (Writes-then stores c.put_u48.ensures refl) c.put_u48-2.ensures refl

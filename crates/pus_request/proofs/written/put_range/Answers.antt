@@ -1,0 +1,6 @@
+use Rattle.std.proofs.Common.{refl}
+use Rattle.octet_fields.proofs.Splices.{Writes-then}
+use Rattle.pus_request.proofs.written.put_range.Goals as goal
+
+pub returns-clause-item : goal.returns-clause-item
+returns-clause-item c = Writes-then (Writes-then c.put_u16.ensures c.put_u48.ensures refl) c.put_u48-2.ensures refl

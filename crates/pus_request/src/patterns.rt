@@ -1,0 +1,83 @@
+// Patterns as the five octets of an item's field.
+ghost use Rattle.std.specs.Prelude.{◌≡◌, ◌+◌, ◌-◌, ◌≤◌, ◌++◌, ◌∷◌, [], MatchOption, None, Some, length, drop};
+ghost use Rattle.octet_fields.specs.Fields.{Writes, big_bytes};
+ghost use Rattle.control_defs.specs.Patterns.{IsPattern};
+ghost use Rattle.pst_model.specs.Least.{first_below};
+ghost use Rattle.pst_model.specs.PatternOctets.{is_wrong_in_pattern, pattern_in, pattern_octets};
+
+use control_defs::Pattern;
+use octet_fields::{put_u8, put_u16, u16_at};
+
+// The forms of a pattern.
+const EVERY: u8 = 0;
+
+const APP: u8 = 1;
+
+const SERVICE: u8 = 2;
+
+const KIND: u8 = 3;
+
+/// The highest APID.
+const HIGHEST: u16 = 2047;
+
+/// The place of the first wrong octet of the pattern at `at`, where one is wrong.
+pub(crate) fn wrong_in_pattern(body: &[u8], at: usize) -> Option<usize>
+    requires { at + 5 ≤ length body.now }
+    ensures { MatchOption result
+        (first_below (is_wrong_in_pattern (drop at body.now)) 5 ≡ None)
+        (λ place. (at ≤ place) × (first_below (is_wrong_in_pattern (drop at body.now)) 5 ≡ Some (place - at))) }
+{
+    let form = body[at];
+    let highest = if form == EVERY { 0 } else { HIGHEST };
+    if form > KIND {
+        Some(at)
+    } else if u16_at(body, at + 1) > highest {
+        Some(at + 1)
+    } else if form < SERVICE && body[at + 3] != 0 {
+        Some(at + 3)
+    } else if form < KIND && body[at + 4] != 0 {
+        Some(at + 4)
+    } else {
+        None
+    }
+}
+
+/// The pattern that the five octets at `at` spell, where none of them is wrong.
+pub(crate) fn pattern_at(body: &[u8], at: usize) -> Pattern
+    requires { at + 5 ≤ length body.now }
+    ensures { result ≡ pattern_in (drop at body.now) }
+{
+    let apid = u16_at(body, at + 1);
+    let service = body[at + 3];
+    let subtype = body[at + 4];
+    match body[at] {
+        EVERY => Pattern::Every,
+        APP => Pattern::App(apid),
+        SERVICE => Pattern::Service(apid, service),
+        _ => Pattern::Kind(apid, service, subtype),
+    }
+}
+
+/// Writes a pattern in five octets at `at`, and leaves the rest.
+pub(crate) fn put_pattern(pattern: Pattern, out: &mut [u8], at: usize)
+    requires { at + 5 ≤ length out.old }
+    ensures { Writes out.old out.new at (pattern_octets pattern) }
+{
+    match pattern {
+        Pattern::Every => put_fields(EVERY, 0, 0, 0, out, at),
+        Pattern::App(apid) => put_fields(APP, apid, 0, 0, out, at),
+        Pattern::Service(apid, service) => put_fields(SERVICE, apid, service, 0, out, at),
+        Pattern::Kind(apid, service, subtype) => put_fields(KIND, apid, service, subtype, out, at),
+    }
+}
+
+// Writes the form and the fields of a pattern.
+fn put_fields(form: u8, apid: u16, service: u8, subtype: u8, out: &mut [u8], at: usize)
+    requires { at + 5 ≤ length out.old }
+    ensures { Writes out.old out.new at (form ∷ big_bytes 2 apid ++ service ∷ subtype ∷ []) }
+{
+    put_u8(out, at, form);
+    put_u16(out, at + 1, apid);
+    put_u8(out, at + 3, service);
+    put_u8(out, at + 4, subtype);
+}
