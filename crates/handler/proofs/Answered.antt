@@ -1,7 +1,7 @@
 -- What the verdicts on a request are sent as.
 use Rattle.std.proofs.Common.{◌≡◌, ℕ, List, None, Some, map, sym, ◌∙◌, ap}
 use Rattle.control_defs.specs.declared.instructions.Instruction.{Instruction}
-use Rattle.pus_header.specs.Commands.{acks_of, subtype_of}
+use Rattle.pus_header.specs.Commands.{acks_of, service_of, subtype_of}
 use Rattle.pst_model.specs.declared.verdicts.Verdict.{Verdict}
 use Rattle.pst_model.specs.Answers.{Carried, answer, answer_by, answer_carried, carry_out, data_in, identifier_of, on_request, refusal_of, replied, verdicts_of}
 use Rattle.pst_model.specs.Reports.{verdict_report}
@@ -24,7 +24,7 @@ refused_answer number moment octets table verdict is = ap (answer_by number mome
 
 -- a request that none refuses, whose instructions were carried out
 pub carried_answer : (number moment acks : ℕ) (octets : List ℕ) (items : List Instruction) (first next : Table) (failures : List (ℕ × ℕ))
-    → refusal_of octets ≡ None → acks ≡ acks_of octets → items ≡ items_in (subtype_of octets) (data_in octets) → carry_out items first ≡ record { table = next; failures = failures }
+    → refusal_of octets ≡ None → acks ≡ acks_of octets → items ≡ items_in (service_of octets) (subtype_of octets) (data_in octets) → carry_out items first ≡ record { table = next; failures = failures }
     → answer number moment octets first ≡ replied number moment next (on_request octets (verdicts_of acks failures))
 carried_answer number moment acks octets items first next failures none asked listed carried =
     ap (answer_by number moment octets first) none

@@ -1,8 +1,8 @@
 // What a request does to the table, and the verdicts on it.
-ghost use Rattle.std.specs.Prelude.{◌≡◌, ℕ};
+ghost use Rattle.std.specs.Prelude.{◌≡◌, ℕ, true};
 ghost use Rattle.space_packet.specs.View.{octets_of};
-ghost use Rattle.pus_request.specs.View.{listed};
-ghost use Rattle.pst_model.specs.Answers.{answer, carry_out, on_request, replied};
+ghost use Rattle.pus_request.specs.View.{asked, listed};
+ghost use Rattle.pst_model.specs.Answers.{answer, carry_out, is_built, on_request, replied};
 ghost use Rattle.handler.specs.Table.{table_of};
 
 use crate::judging::judge;
@@ -11,8 +11,9 @@ use crate::verdicts::{Failures, Verdicts, verdicts_on};
 use pus_request::Items;
 use space_packet::PacketView;
 
-// Carries out instructions in their order, and tells which failed.
+// Carries out instructions of a kind that is built in their order, and tells which failed.
 fn carry_out_all(table: &mut MemTable, items: &Items<'_>) -> Failures
+    requires { is_built (asked items.now).0 (asked items.now).1 ≡ true }
     ensures { carry_out (listed items.now) (table_of table.old) ≡ record { table = table_of table.new; failures = result.items } }
 {
     let mut failures = Failures::new();

@@ -1,5 +1,5 @@
 // The table of the boot store alone, in memory.
-ghost use Rattle.std.specs.Prelude.{◌≡◌, ◌≤◌, ◌<◌, ◌+◌, ◌-◌, ◌∷◌, ◌++◌, ℕ, [], Ok, Err, All, length, drop, IfOk, IsSome, OnOk, OnErr, IfNone, IfSome, MatchOption, MatchResult};
+ghost use Rattle.std.specs.Prelude.{◌≡◌, ◌≤◌, ◌<◌, ◌+◌, ◌-◌, ◌∷◌, ◌++◌, ℕ, [], true, Ok, Err, All, length, drop, IfOk, OnOk, OnErr, IfNone, IfSome, MatchOption, MatchResult};
 ghost use Rattle.std.specs.VecDeque.{deque_capacity};
 ghost use Rattle.pst_model.specs.Table.{content_in};
 ghost use Rattle.handler.specs.Kept.{IsKept, leaving, packets_of};
@@ -43,9 +43,9 @@ impl MemTable {
     ghost use Rattle.space_packet.specs.View.{octets_of};
     ghost use Rattle.handler.specs.Refusals.{code_of};
     ghost use Rattle.handler.specs.Table.{HasNext, store_of, table_of, table_with};
+    ghost use Rattle.pst_model.specs.Answers.{is_carried};
     ghost use Rattle.pst_model.specs.Instructions.{instruct};
     ghost use Rattle.pst_model.specs.Reports.{count_behind};
-    ghost use Rattle.pst_model.specs.Requests.{subtype_asked};
     ghost use Rattle.pst_model.specs.Rules.{Retrieved, arrive, grant};
     ghost use Rattle.pst_model.specs.Table.{after_format};
 
@@ -129,11 +129,10 @@ impl MemTable {
         self.behind += 1;
     }
 
-    /// Carries out an instruction of a kind that a request can ask for, or tells why it fails: it names
-    /// another store than the boot store (6.15.3), or what it asks for is so already. A failed one
-    /// changes nothing.
+    /// Carries out an instruction of a kind that is built, or tells why it fails: it names another store
+    /// than the boot store (6.15.3), or what it asks for is so already. A failed one changes nothing.
     pub fn carry_out(&mut self, instruction: Instruction) -> Result<(), Refusal>
-        requires { IsSome (subtype_asked instruction) }
+        requires { is_carried instruction ≡ true }
         ensures { MatchResult result
             (λ _. instruct instruction (table_of self.old) ≡ Ok (table_of self.new))
             (λ refusal. (instruct instruction (table_of self.old) ≡ Err (code_of refusal))
