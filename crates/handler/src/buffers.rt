@@ -39,7 +39,12 @@ impl Buffers {
     }
 
     /// Sends the line of a packet of at most 4,096 octets on a channel below 8, and answers its octets.
-    pub fn send<B: Board>(&mut self, board: &mut B, channel: u8, packet: &[u8]) -> Result<u32, Failed>
+    pub fn send<B: Board>(
+        &mut self,
+        board: &mut B,
+        channel: u8,
+        packet: &[u8],
+    ) -> Result<u32, Failed>
         requires digit { channel < 8 }
         requires short { length packet.now ≤ 4096 }
         ensures octets { IfOk result (λ octets. octets ≡ length (output_line channel packet.now)) }
@@ -80,6 +85,11 @@ impl Buffers {
             (reply number head.moment head.count (verdict_report request verdict) ∷ [])) }
     {
         let length = self.write_verdict(head, verdict, request);
-        send_line(board, REPORTS, &self.report[..length as usize], &mut self.line)
+        send_line(
+            board,
+            REPORTS,
+            &self.report[..length as usize],
+            &mut self.line,
+        )
     }
 }

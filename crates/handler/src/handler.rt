@@ -120,7 +120,14 @@ impl Handler {
     {
         let verdicts = decide(&mut self.table, packet);
         let identifier = identifier_of(packet);
-        match send_verdicts(board, &mut self.table, &mut self.buffers, moment, identifier, verdicts.as_slice()) {
+        match send_verdicts(
+            board,
+            &mut self.table,
+            &mut self.buffers,
+            moment,
+            identifier,
+            verdicts.as_slice(),
+        ) {
             Ok(sent) => Ok(sent),
             Err(_) => Err(self.close()),
         }

@@ -1,6 +1,9 @@
-// A full store, and instructions that take effect and that fail.
+// A full store, instructions that take effect and that fail, and the lines of each call.
 
 use super::*;
+use crate::refusal::Refusal;
+use crate::table::MemTable;
+use board::{CallKind, MemBoard};
 use control_defs::Instruction;
 use space_packet::PacketView;
 use std::alloc::{AllocError, Global};
@@ -83,5 +86,48 @@ fn reports_are_counted(rt: HostRuntime) -> Result<(), Fail> {
     assert_eq!(rt; table.count(), 16383);
     table.report();
     assert_eq!(rt; table.count(), 0);
+    Ok(())
+}
+
+// A request [15,16] of store 1, which asks for two reports.
+const SUSPEND: [u8; 14] = [0x18, 0x0a, 0xc0, 0, 0, 7, 0x29, 0x0f, 0x10, 0, 0, 1, 0, 1];
+
+#[test]
+fn each_call_counts_its_lines(rt: HostRuntime) -> Result<(), Fail> {
+    let alloc = rt.alloc();
+    let mut board = MemBoard::new(alloc, 16)?;
+    let mut handler = Handler::new(alloc)?;
+    let octets = short(7);
+    let (Ok(packet), Ok(request)) = (PacketView::read(&octets), PacketView::read(&SUSPEND)) else {
+        panic!(rt; "no packets");
+    };
+    assert!(rt; handler.is_open());
+    assert!(rt; handler.arrival(alloc, &mut board, 1, packet) == Ok(Sent::default()));
+    let retrieved = Sent {
+        retrieved: 1,
+        octets: 17,
+        ..Sent::default()
+    };
+    assert!(rt; handler.is_open());
+    assert!(rt; handler.grant(&mut board, 2) == Ok(retrieved));
+    assert!(rt; handler.is_open());
+    assert!(rt; handler.grant(&mut board, 3) == Ok(Sent::default()));
+    let replies = Sent {
+        replies: 2,
+        octets: 98,
+        ..Sent::default()
+    };
+    assert!(rt; handler.is_open());
+    assert!(rt; handler.request(alloc, &mut board, 4, request) == Ok(replies));
+    assert!(rt; handler.is_open());
+    assert!(rt; handler.finish(&mut board) == Ok(()));
+    assert_eq!(rt; board.sent().len(), 115);
+    assert!(rt; handler.is_open());
+    board.plan(
+        CallKind::Send,
+        board.count(CallKind::Send).saturating_add(1),
+    )?;
+    assert!(rt; handler.request(alloc, &mut board, 5, request) == Err(HandlerFault::Link));
+    assert!(rt; !handler.is_open());
     Ok(())
 }

@@ -16,7 +16,9 @@ const SOME_FAILED: u8 = 23;
 
 // The acknowledgement flags, by their values (ECSS-E-ST-70-41C, 7.4.4.1).
 const ACCEPTANCE: u8 = 1;
+
 const START: u8 = 2;
+
 const COMPLETION: u8 = 8;
 
 // Adds the verdict where its flag is set.

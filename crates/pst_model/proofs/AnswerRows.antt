@@ -1,11 +1,11 @@
 -- Requests and their answers on worked inputs, by computation.
-use Rattle.std.proofs.Common.{◌≡◌, ℕ, ◌+◌, ◌*◌, true, false, List, [], ◌∷◌, ◌++◌, Some, None, refl}
+use Rattle.std.proofs.Common.{◌≡◌, ℕ, false, List, [], ◌∷◌, ◌++◌, Some, None, refl}
 use Rattle.std.specs.Prelude.{map}
 use Rattle.std.specs.List.{range_with_len}
 use Rattle.pst_model.specs.declared.verdicts.Verdict.{Verdict}
 use Rattle.pst_model.specs.declared.verdicts.Verdict.TheVariants.{Accepted, Refused, Started, StartFailed, Completed, CompletionFailed}
 use Rattle.pst_model.specs.Answers.{refusal_of, verdicts_of}
-use Rattle.pst_model.specs.Command.{Command, Arrival, Request, Grant}
+use Rattle.pst_model.specs.Command.{Arrival, Request, Grant}
 use Rattle.pst_model.specs.Rules.{Output, Reply}
 use Rattle.pst_model.specs.Run.{run}
 use Rattle.pst_model.specs.Table.{Store, Table, after_format}

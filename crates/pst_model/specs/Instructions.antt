@@ -1,5 +1,5 @@
 -- What one instruction does to the table (ECSS-E-ST-70-41C, 6.15.3).
-use Rattle.std.specs.Prelude.{ℕ, ◌==◌, Bool, true, false, not, if◌then◌else◌, find, List, Option, Some, None, Result, Ok, Err}
+use Rattle.std.specs.Prelude.{ℕ, ◌==◌, Bool, true, false, if◌then◌else◌, find, Option, Some, None, Result, Ok, Err}
 use Rattle.control_defs.specs.declared.instructions.Instruction.{Instruction}
 use Rattle.control_defs.specs.declared.instructions.Instruction.TheVariants.{Enable, Disable, Resume, Suspend}
 use Rattle.pst_model.specs.Rules.{at_first}

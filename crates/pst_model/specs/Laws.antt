@@ -1,5 +1,5 @@
 -- What holds of each store of a table, and of reports.
-use Rattle.std.specs.Prelude.{◌≤◌, ◌==◌, ℕ, Bool, true, false, count_by, List, length}
+use Rattle.std.specs.Prelude.{◌≤◌, ℕ, Bool, true, false, count_by, List, length}
 use Rattle.pst_model.specs.Rules.{Output, OutputKind, Forwarded, Reply, Retrieved}
 use Rattle.pst_model.specs.Table.{Store}
 

@@ -46,7 +46,8 @@ fn end_of(lines: &mut Lines, source: &mut Pieces) -> Option<LineEnd>
 
 #[test]
 fn commands_come_one_by_one_and_then_none(rt: HostRuntime) -> Result<(), Fail> {
-    let text = b"A 000000000010 0864c000000d20031900000000000000000010aa\nG 000000000011\nR 000000000012 07ffc000000000\n";
+    let text =
+        b"A 000000000010 0864c000000d20031900000000000000000010aa\nG 000000000011\nR 000000000012 07ffc000000000\n";
     for most in [1, 7, 4096] {
         let mut source = Pieces { text, most };
         let mut lines = Lines::new(rt.alloc(), text.len() as u64)?;

@@ -5,6 +5,7 @@ mod failures;
 mod forms;
 mod long;
 mod packets;
+mod requests;
 mod worked;
 
 use crate::short_source::ShortSource;

@@ -8,7 +8,7 @@ use std::process::Abort;
 use std::test::Fail;
 
 // In each line P stands for the 40 digits of a packet.
-const LINES: [&[u8]; 113] = [
+const LINES: [&[u8]; 115] = [
     // fields missing
     b"\n",
     b"A\n",
@@ -57,7 +57,9 @@ const LINES: [&[u8]; 113] = [
     b"F 000000000011\n",
     b"H 000000000011\n",
     b"0 000000000011\n",
-    b"R 000000000010 P\n",
+    b"R000000000010 P\n",
+    b"r 000000000010 P\n",
+    b"R 000000000010\n",
     b"I 000000000010 P\n",
     b"I 000000000011\n",
     b"R\n",

@@ -1,4 +1,4 @@
-use Rattle.std.proofs.Common.{ℕ, refl, subst, sym, ◌∙◌, ap, arith, Ok, Err}
+use Rattle.std.proofs.Common.{refl, subst, sym, ◌∙◌, ap, arith, Ok, Err}
 use Rattle.session_text.specs.declared.fault.LineEnd.TheVariants.{Bad}
 use Rattle.board.proofs.Runs.{gains_none, started}
 use Rattle.board.specs.Moments.{GainsFront}
