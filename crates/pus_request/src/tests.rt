@@ -267,8 +267,8 @@ fn the_first_fault_is_named(rt: HostRuntime) {
     for (service, subtype, body, fault) in rows {
         let mut octets = [0_u8; 28];
         octets[..9].copy_from_slice(&[0x18, 0x0a, 0xc0, 0, 0, 0, 0x20, service, subtype]);
+        assert!(rt; body.len() <= 17);
         let end = 11 + body.len();
-        assert!(rt; end <= octets.len());
         octets[5] = end as u8 - 7;
         octets[11..end].copy_from_slice(body);
         assert!(rt; fault_in(&octets[..end]) == fault, "[{service},{subtype}]");

@@ -1,4 +1,4 @@
-use Rattle.std.proofs.Common.{◌≡◌, ℕ, List, refl, ◌∙◌, ap, sym, subst}
+use Rattle.std.proofs.Common.{◌≡◌, ℕ, List, ◌∙◌, ap, subst}
 use Rattle.pus_header.specs.Commands.{service_of, subtype_of}
 use Rattle.pus_header.specs.View.{command_octets}
 use Rattle.pst_model.specs.Requests.{SpellsRequest}

@@ -1,4 +1,4 @@
-use Rattle.std.proofs.Common.{ap, inl, inr, subst, sym}
+use Rattle.std.proofs.Common.{inl, inr, subst, sym}
 use Rattle.pus_request.specs.declared.kinds.Kind.{Kind}
 use Rattle.pus_request.specs.Kinds.{row_of}
 use Rattle.pst_model.specs.Layouts.{is_wrong_in, width_of}

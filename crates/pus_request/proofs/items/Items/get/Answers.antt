@@ -1,8 +1,7 @@
-use Rattle.std.proofs.Common.{◌<◌, ◌≤◌, ◌+◌, ◌*◌, ◌≡◌, ◌∙◌, ℕ, List, Some, get_or, length, drop, sym, ap, arith, subst, refl}
+use Rattle.std.proofs.Common.{◌<◌, ◌≤◌, ◌+◌, ◌*◌, ◌≡◌, ◌∙◌, ℕ, Some, get_or, length, drop, sym, ap, arith, subst}
 use Rattle.std.proofs.Math.Nat.{mul-le-mul_right}
 use Rattle.std.proofs.lemmas.List.{drop-drop}
 use Rattle.std.proofs.lemmas.Option.{slice_get-get_or}
-use Rattle.control_defs.specs.declared.instructions.Instruction.{Instruction}
 use Rattle.control_defs.specs.Instructions.{IsInstruction}
 use Rattle.pst_model.specs.Items.{kind_asked}
 use Rattle.pst_model.specs.Layouts.{width_of}
