@@ -1,24 +1,28 @@
 -- Reports that answer a request, some behind others.
-use Rattle.std.proofs.Common.{◌≡◌, ℕ, ◌+◌, ◌<◌, ◌≤◌, List, [], ◌∷◌, ◌++◌, length, Option, Some, None, refl, sym, ◌∙◌, ap, subst, arith, length-append}
+use Rattle.std.proofs.Common.{◌≡◌, ℕ, ◌+◌, ◌<◌, ◌≤◌, List, [], ◌∷◌, ◌++◌, length, take, Option, Some, None, refl, sym, ◌∙◌, ap, arith, length-append, true, false, map, inl, inr}
 use Rattle.std.proofs.lemmas.List.Sums.{sum_by-append}
-use Rattle.std.specs.Prelude.{if◌then◌else◌}
-use Rattle.board.specs.Counts.{Counts}
-use Rattle.board.specs.Device.{Device}
+use Rattle.std.proofs.lemmas.Bool.{cases_eq, cond-false, cond-true, eq-eqb, false≢true, ne_eqb}
+use Rattle.std.specs.Prelude.{find, if◌then◌else◌, is_some}
 use Rattle.control_defs.specs.declared.instructions.Instruction.{Instruction}
 use Rattle.control_defs.specs.declared.instructions.Instruction.TheVariants.{ForwardReport, ReportTypes, Summary, Status, Configuration}
 use Rattle.pus_request.specs.declared.items.Items.{Items}
 use Rattle.pus_request.specs.View.{listed}
-use Rattle.pst_model.specs.Answers.{replied, replies_from}
-use Rattle.pst_model.specs.Contents.{content_report}
+use Rattle.pst_model.specs.Answers.{replied, replies_from, reply}
+use Rattle.pst_model.specs.declared.verdicts.Verdict.{Verdict}
+use Rattle.pst_model.specs.Contents.{content_report, types_where}
+use Rattle.pst_model.specs.Instructions.{is_named}
 use Rattle.pst_model.specs.Laws.{is_reply}
-use Rattle.pst_model.specs.Reports.{Report, count_behind}
-use Rattle.pst_model.specs.Rules.{Output, Step}
+use Rattle.pst_model.specs.Reports.{Report, count_behind, types_report, verdict_report}
+use Rattle.pst_model.specs.Output.{output_line}
+use Rattle.pst_model.specs.Rules.{Output, Step, Reply}
 use Rattle.pst_model.specs.Run.{behind_outputs, lines_of}
-use Rattle.pst_model.specs.Table.{Table}
+use Rattle.pst_model.specs.Table.{Store, Table}
 use Rattle.pst_model.proofs.Counted.{count_behind-more, replies_from-append}
 use Rattle.pst_model.proofs.Runs.{lines_of-append}
-use Rattle.handler.specs.Asked.{content_asked}
+use Rattle.handler.specs.Asked.{content_asked, reports_in}
+use Rattle.handler.specs.Content.{HoldsReport}
 use Rattle.handler.specs.Counting.{IsCountOf, and_then, is_forwarded, is_retrieved}
+use Rattle.handler.specs.declared.deciding.Decision.{Decision}
 use Rattle.handler.specs.declared.sent.Sent.{Sent}
 
 -- no report
@@ -60,3 +64,59 @@ counted_on xs ys first second one two = record {
       let lines : length (lines_of (xs ++ ys)) ≡ length (lines_of xs) + length (lines_of ys) = ap length (lines_of-append xs ys) ∙ length-append (lines_of xs) (lines_of ys) in
       omega (arith, one.octets, two.octets, lines);
 }
+
+-- the one report that a buffer holds, as an output
+pub reply-held : (number moment count reports : ℕ) (all : List Report) (out : List ℕ) (length : ℕ) → count ≡ reports → HoldsReport all (record { count = count; moment = moment }) out length
+    → ◌≡◌ {A = List Output} (record { command = number; kind = Reply; channel = 0; packet = take length out } ∷ []) (replies_from number moment reports all)
+reply-held number moment count reports all out length counted held =
+    ap (λ (packet : List ℕ). record { command = number; kind = Reply; channel = 0; packet = packet } ∷ []) held.written
+    ∙ ap (λ (n : ℕ). reply number moment n held.report ∷ []) counted
+    ∙ ap (replies_from number moment reports) (sym held.only)
+
+-- a line alone, of a report
+pub counted_one : (number : ℕ) (packet : List ℕ) (octets : ℕ) (sent : Sent) → octets ≡ length (output_line 0 packet) → sent.forwarded ≡ 0 → sent.retrieved ≡ 0
+    → IsCountOf (record { command = number; kind = Reply; channel = 0; packet = packet } ∷ []) (record sent { replies = 1; octets = octets })
+counted_one number packet octets sent line none neither = record {
+  forwarded = none;
+  replies = refl;
+  retrieved = neither;
+  octets = omega (arith, line, length-append (output_line 0 packet) []);
+}
+
+-- What answers a request goes out in three parts: the verdicts in front, the content report, and completion.
+in_parts : (number moment : ℕ) (first mid next : Table) (before after : List Report) (asked : Option Items) → first.reports < 16384
+    → mid ≡ (replied number moment first before).table → next ≡ (replied number moment mid (content_asked asked mid)).table
+    → replied number moment first (before ++ content_asked asked first ++ after)
+    ≡ behind_outputs ((replied number moment first before).outputs ++ (replied number moment mid (content_asked asked mid)).outputs) (replied number moment next after)
+in_parts number moment first mid next before after asked small mid-is next-is =
+    let content = content_asked asked first in
+    let front = (replied number moment first before).outputs in
+    let same : content ≡ content_asked asked mid =
+    sym (ap (content_asked asked) mid-is ∙ content_asked-counted asked first (count_behind first.reports (length before))) in
+    let two : replied number moment first (before ++ content) ≡ behind_outputs front (replied number moment mid (content_asked asked mid)) =
+    replied-append number moment first before content small
+    ∙ ap (λ (t : Table). behind_outputs front (replied number moment t content)) (sym mid-is)
+    ∙ ap (λ (reports : List Report). behind_outputs front (replied number moment mid reports)) same in
+    replied-append number moment first (before ++ content) after small
+    ∙ ap (λ (step : Step). behind_outputs step.outputs (replied number moment step.table after)) two
+    ∙ ap (λ (t : Table). behind_outputs (front ++ (replied number moment mid (content_asked asked mid)).outputs) (replied number moment t after)) (sym next-is)
+
+module _ (number moment : ℕ) (request : List ℕ) (first mid next : Table) (decision : Decision) (before after : List Verdict) where
+  -- the outputs of what was decided, of which the verdicts are these
+  pub answered_in_parts : before ≡ decision.before.items → after ≡ decision.after.items → first.reports < 16384
+      → mid ≡ (replied number moment first (map (verdict_report request) before)).table → next ≡ (replied number moment mid (content_asked decision.asked mid)).table
+      → behind_outputs ((replied number moment first (map (verdict_report request) before)).outputs ++ (replied number moment mid (content_asked decision.asked mid)).outputs) (replied number moment next (map (verdict_report request) after))
+      ≡ replied number moment first (reports_in request decision first)
+  answered_in_parts before-is after-is small mid-is next-is =
+      sym (in_parts number moment first mid next (map (verdict_report request) before) (map (verdict_report request) after) decision.asked small mid-is next-is)
+      ∙ ap (λ (verdicts : List Verdict). replied number moment first (map (verdict_report request) verdicts ++ content_asked decision.asked first ++ map (verdict_report request) after)) before-is
+      ∙ ap (λ (verdicts : List Verdict). replied number moment first (map (verdict_report request) decision.before.items ++ content_asked decision.asked first ++ map (verdict_report request) verdicts)) after-is
+
+-- the report of the patterns of a store that stands
+pub types_found : (identifier : ℕ) (store : Store) → is_some (find (is_named identifier) (store ∷ [])) ≡ true → types_where (find (is_named identifier) (store ∷ [])) ≡ types_report identifier store.patterns ∷ []
+types_found identifier store stands = elim (cases_eq store.identifier identifier) [
+  | inl here ↦
+      ap types_where (cond-true (is_named identifier store) (Some store) None (eq-eqb store.identifier identifier here))
+      ∙ ap (λ (n : ℕ). types_report n store.patterns ∷ []) here
+  | inr other ↦ absurd (false≢true (sym (ap is_some (cond-false (is_named identifier store) (Some store) None (ne_eqb store.identifier identifier other))) ∙ stands))
+]

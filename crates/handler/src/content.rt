@@ -57,7 +57,7 @@ pub fn write_content(table: &MemTable, items: &Items<'_>, head: Head, out: &mut 
     ensures none { IfNone result (content_report (listed items.now) (table_of table.now) ≡ []) }
     ensures some { IfSome result (HoldsReport (content_report (listed items.now) (table_of table.now)) head out.new) }
 {
-    match items.get(0) {
+    match items.first() {
         Instruction::ForwardReport => Some(write_forward(head, table.forward(), out)),
         Instruction::ReportTypes(store) => {
             if !table.stands(store) {

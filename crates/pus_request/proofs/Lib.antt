@@ -1,4 +1,5 @@
 pub mod Fields
 pub mod Rows
+pub mod Viewed
 pub mod Wrong
 pub mod WrittenItems

@@ -1,5 +1,5 @@
 // The items of a request, as a view of its data.
-ghost use Rattle.std.specs.Prelude.{◌≡◌, ◌<◌, ◌≤◌, ℕ, All, None, Some, length, slice_get};
+ghost use Rattle.std.specs.Prelude.{◌≡◌, ◌<◌, ◌≤◌, ◌∷◌, ℕ, All, None, Some, drop, length, slice_get};
 ghost use Rattle.control_defs.specs.Instructions.{IsInstruction};
 ghost use Rattle.pst_model.specs.Items.{kind_asked};
 ghost use Rattle.pst_model.specs.Requests.{SpellsRequest, malformed_at};
@@ -38,6 +38,13 @@ impl<'a> Items<'a> {
         ensures few { result ≤ 32 }
     {
         u32::from(self.kind.count_in(self.body))
+    }
+
+    /// The first instruction: there is one.
+    pub fn first(&self) -> Instruction
+        ensures { listed self.now ≡ result ∷ drop 1 (listed self.now) }
+    {
+        self.get(0)
     }
 
     /// The instruction at this place. Places are counted from 0.

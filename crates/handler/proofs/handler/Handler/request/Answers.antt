@@ -1,4 +1,4 @@
-use Rattle.std.proofs.Common.{◌≡◌, ℕ, ◌∙◌, ap, subst, sym}
+use Rattle.std.proofs.Common.{ℕ, ◌∙◌, ap, subst}
 use Rattle.space_packet.specs.View.{octets_of}
 use Rattle.pst_model.specs.Rules.{Step}
 use Rattle.handler.specs.Counting.{IsCountOf}
@@ -11,22 +11,22 @@ pub returns-in-Ok-clause-table : goal.returns-in-Ok-clause-table
 returns-in-Ok-clause-table g c number =
     c.in-Ok.ensures.table number
     ∙ ap (λ (step : Step). step.table)
-    (answered number c.args.moment (octets_of c.args.packet) c.identifier_of-identifier.result (table_of c.args.self.now.table) (table_of c.decide-verdicts.new.table) c.decide-verdicts.result.items c.as_slice.result.now
-    c.decide-verdicts.ensures c.identifier_of-identifier.ensures c.as_slice.ensures.value)
+    (answered number c.args.moment (octets_of c.args.packet) c.identifier_of-identifier.result (table_of c.args.self.now.table) (table_of c.decide-decision.new.table) c.decide-decision.result
+    c.decide-decision.ensures c.identifier_of-identifier.ensures)
 
 pub returns-in-Ok-clause-sends : goal.returns-in-Ok-clause-sends
 returns-in-Ok-clause-sends g c number =
     let board = g.B.Board in
-    subst (λ (step : Step). SendsLines board.device board.moment board.sent board.counts c.args.board.now c.send_verdicts.new.board step.outputs)
-    (answered number c.args.moment (octets_of c.args.packet) c.identifier_of-identifier.result (table_of c.args.self.now.table) (table_of c.decide-verdicts.new.table) c.decide-verdicts.result.items c.as_slice.result.now
-    c.decide-verdicts.ensures c.identifier_of-identifier.ensures c.as_slice.ensures.value)
+    subst (λ (step : Step). SendsLines board.device board.moment board.sent board.counts c.args.board.now c.send_answer.new.board step.outputs)
+    (answered number c.args.moment (octets_of c.args.packet) c.identifier_of-identifier.result (table_of c.args.self.now.table) (table_of c.decide-decision.new.table) c.decide-decision.result
+    c.decide-decision.ensures c.identifier_of-identifier.ensures)
     (c.in-Ok.ensures.sends number)
 
 pub returns-in-Ok-clause-counted : goal.returns-in-Ok-clause-counted
 returns-in-Ok-clause-counted g c number =
     subst (λ (step : Step). IsCountOf step.outputs c.in-Ok.sent)
-    (answered number c.args.moment (octets_of c.args.packet) c.identifier_of-identifier.result (table_of c.args.self.now.table) (table_of c.decide-verdicts.new.table) c.decide-verdicts.result.items c.as_slice.result.now
-    c.decide-verdicts.ensures c.identifier_of-identifier.ensures c.as_slice.ensures.value)
+    (answered number c.args.moment (octets_of c.args.packet) c.identifier_of-identifier.result (table_of c.args.self.now.table) (table_of c.decide-decision.new.table) c.decide-decision.result
+    c.decide-decision.ensures c.identifier_of-identifier.ensures)
     (c.in-Ok.ensures.counted number)
 
 pub returns-in-Err-clause-breaks : goal.returns-in-Err-clause-breaks
@@ -34,7 +34,7 @@ returns-in-Err-clause-breaks g c =
     let board = g.B.Board in
     rw c.close.ensures.fault
     (λ (number : ℕ).
-    subst (λ (step : Step). BreaksIn board.device board.moment board.sent board.counts c.args.board.now c.send_verdicts.new.board step.outputs)
-    (answered number c.args.moment (octets_of c.args.packet) c.identifier_of-identifier.result (table_of c.args.self.now.table) (table_of c.decide-verdicts.new.table) c.decide-verdicts.result.items c.as_slice.result.now
-    c.decide-verdicts.ensures c.identifier_of-identifier.ensures c.as_slice.ensures.value)
+    subst (λ (step : Step). BreaksIn board.device board.moment board.sent board.counts c.args.board.now c.send_answer.new.board step.outputs)
+    (answered number c.args.moment (octets_of c.args.packet) c.identifier_of-identifier.result (table_of c.args.self.now.table) (table_of c.decide-decision.new.table) c.decide-decision.result
+    c.decide-decision.ensures c.identifier_of-identifier.ensures)
     (c.in-Err.ensures.breaks number))

@@ -5,24 +5,12 @@ use Rattle.std.proofs.lemmas.Option.{slice_get-get_or}
 use Rattle.control_defs.specs.Instructions.{IsInstruction}
 use Rattle.pst_model.specs.Items.{kind_asked}
 use Rattle.pst_model.specs.Layouts.{width_of}
-use Rattle.pst_model.specs.Requests.{SpellsRequest, count_in, front_of}
-use Rattle.pst_model.proofs.RequestItems.{get_or-items_from, length-items_from}
-use Rattle.pst_model.proofs.WholeRequests.{IsWhole, whole-from_none}
-use Rattle.pus_request.specs.declared.items.Items.{Items}
-use Rattle.pus_request.specs.Kinds.{asked_by, row_of}
+use Rattle.pst_model.specs.Requests.{count_in, front_of}
+use Rattle.pst_model.proofs.RequestItems.{get_or-items_from}
+use Rattle.pus_request.specs.Kinds.{row_of}
 use Rattle.pus_request.specs.View.{listed}
-use Rattle.pus_request.proofs.Rows.{spelled-view}
+use Rattle.pus_request.proofs.Viewed.{many, spelled, whole}
 use Rattle.pus_request.proofs.items.Items.get.Goals as goal
-
--- how many items there are
-many : (items : Items) → length (listed items) ≡ count_in (row_of items.kind) items.body.now
-many items = let row = row_of items.kind in length-items_from row (count_in row items.body.now) (drop (front_of row) items.body.now)
-
-whole : (items : Items) → IsWhole (row_of items.kind) items.body.now
-whole items = whole-from_none (row_of items.kind) items.body.now items.faultless
-
-spelled : (items : Items) → SpellsRequest (asked_by items.kind).0 (asked_by items.kind).1 items.body.now (listed items)
-spelled items = spelled-view items.kind items.body.now items.octets items.faultless
 
 pub place_of-requires : goal.place_of-requires
 place_of-requires c =
