@@ -1,18 +1,17 @@
 -- What an item of each kind of request spells.
-use Rattle.std.proofs.Common.{◌≡◌, ℕ, zero, suc, ◌+◌, ◌-◌, ◌^◌, ◌<◌, ◌≤◌, ◌==◌, ◌||◌, Bool, true, false, not, List, [], ◌∷◌, ◌++◌, length, drop, slice_index, Some, refl, sym, ◌∙◌, ap, arith, length-drop, subst}
-use Rattle.std.proofs.lemmas.Bool.{and_parts, cond-false, cond-true, eqb-true, le-ltb, leb-true, lt-ltb, ltb-false}
+use Rattle.std.proofs.Common.{◌≡◌, ℕ, zero, suc, ◌+◌, ◌-◌, ◌^◌, ◌<◌, ◌≤◌, Bool, true, false, not, List, [], ◌∷◌, ◌++◌, length, drop, slice_index, refl, sym, ◌∙◌, ap, arith, length-drop}
+use Rattle.std.proofs.lemmas.Bool.{cond-false, cond-true, le-ltb, lt-ltb, ltb-false}
 use Rattle.std.proofs.lemmas.List.{get_or-drop}
 use Rattle.std.proofs.lemmas.List.Elements.{All-drop}
-use Rattle.std.specs.List.{list_all}
-use Rattle.std.specs.Prelude.{find, if◌then◌else◌, nat_le, nat_lt}
+use Rattle.std.specs.Prelude.{nat_lt}
 use Rattle.octet_fields.specs.Fields.{big_bytes, field}
 use Rattle.control_defs.specs.declared.instructions.Instruction.{Instruction}
-use Rattle.control_defs.specs.declared.instructions.Instruction.TheVariants.{ForwardAdd, ForwardDelete, ForwardReport, Enable, Disable, AddTypes, DeleteTypes, ReportTypes, StartRange, DeleteUpTo, Summary, OpenFrom, Resume, Suspend, Abort, Status, Create, Remove, Configuration, Copy, Resize, ToCircular, ToBounded, Channel}
+use Rattle.control_defs.specs.declared.instructions.Instruction.TheVariants.{StartRange, Create, Copy, Resize, Channel}
 use Rattle.control_defs.specs.Instructions.{IsInstruction}
 use Rattle.control_defs.specs.declared.patterns.Pattern.{Pattern}
 use Rattle.control_defs.specs.Patterns.{IsPattern}
 use Rattle.pst_model.specs.Items.{HasOctets, is_alone, item_of, kind_asked, store_kind_octet}
-use Rattle.pst_model.specs.Layouts.{Field, OneKind, OnePattern, RequestKind, alone, channel_field, is_kind, is_wrong_in, is_wrong_in_field, kind_in, kinds, list_of, size_field, store_field, store_kind_in, time_field, width_of, width_of_field}
+use Rattle.pst_model.specs.Layouts.{Field, OneKind, OnePattern, RequestKind, alone, channel_field, is_wrong_in, is_wrong_in_field, list_of, size_field, store_field, store_kind_in, time_field, width_of, width_of_field}
 use Rattle.pst_model.specs.PatternOctets.{HasPatternOctets, pattern_in, pattern_octets}
 use Rattle.pst_model.proofs.ItemOctets.{AreOctets, Stands-number, Stands-octet, Stands-then, field-lt, octet-lt}
 use Rattle.pst_model.proofs.PatternItems.{ReadsPattern-right, Stands-pattern}
@@ -52,7 +51,7 @@ IsReader kind = (octets : List ℕ) → AreOctets octets → width_of kind.field
 
 -- one store, and a store with a number
 
-store_reader : (list : Bool) (service subtype : ℕ) (make : ℕ → Instruction) → ((n : ℕ) → kind_asked (make n) ≡ (service, subtype)) → ((n : ℕ) → is_alone (make n) ≡ not list)
+pub store_reader : (list : Bool) (service subtype : ℕ) (make : ℕ → Instruction) → ((n : ℕ) → kind_asked (make n) ≡ (service, subtype)) → ((n : ℕ) → is_alone (make n) ≡ not list)
     → ((n : ℕ) → IsInstruction (make n)) → ((n : ℕ) → n < 65536 → HasOctets (make n)) → ((n : ℕ) → item_of (make n) ≡ big_bytes 2 n)
     → IsReader (record { service = service; subtype = subtype; is_list = list; fields = store_field ∷ []; spelled = λ item. make (field 2 0 item) })
 store_reader list service subtype make asked lone lawful fits octets_are octets fit long right =
@@ -64,12 +63,12 @@ store_reader list service subtype make asked lone lawful fits octets_are octets 
       octets_are = (Stands-number 2 0 octets fit long).is ∙ ap (λ (l : List ℕ). l ++ drop 2 octets) (sym (octets_are store));
     }
 
-listed_store : (subtype : ℕ) (make : ℕ → Instruction) → ((n : ℕ) → kind_asked (make n) ≡ (15, subtype)) → ((n : ℕ) → is_alone (make n) ≡ false)
+pub listed_store : (subtype : ℕ) (make : ℕ → Instruction) → ((n : ℕ) → kind_asked (make n) ≡ (15, subtype)) → ((n : ℕ) → is_alone (make n) ≡ false)
     → ((n : ℕ) → IsInstruction (make n)) → ((n : ℕ) → n < 65536 → HasOctets (make n)) → ((n : ℕ) → item_of (make n) ≡ big_bytes 2 n)
     → IsReader (list_of 15 subtype (store_field ∷ []) (λ item. make (field 2 0 item)))
 listed_store subtype make = store_reader true 15 subtype make
 
-time_reader : (subtype : ℕ) (make : ℕ → ℕ → Instruction) → ((n t : ℕ) → kind_asked (make n t) ≡ (15, subtype)) → ((n t : ℕ) → is_alone (make n t) ≡ false)
+pub time_reader : (subtype : ℕ) (make : ℕ → ℕ → Instruction) → ((n t : ℕ) → kind_asked (make n t) ≡ (15, subtype)) → ((n t : ℕ) → is_alone (make n t) ≡ false)
     → ((n t : ℕ) → t < 2 ^ 48 → IsInstruction (make n t)) → ((n t : ℕ) → n < 65536 → HasOctets (make n t)) → ((n t : ℕ) → item_of (make n t) ≡ big_bytes 2 n ++ big_bytes 6 t)
     → IsReader (list_of 15 subtype (store_field ∷ time_field ∷ []) (λ item. make (field 2 0 item) (field 6 2 item)))
 time_reader subtype make asked lone lawful fits octets_are octets fit long right =
@@ -82,7 +81,7 @@ time_reader subtype make asked lone lawful fits octets_are octets fit long right
       octets_are = (Stands-then (Stands-number 2 0 octets fit (omega arith)) (Stands-number 6 2 octets fit long)).is ∙ ap (λ (l : List ℕ). l ++ drop 8 octets) (sym (octets_are store time));
     }
 
-start_range_reader : IsReader (list_of 15 9 (store_field ∷ time_field ∷ time_field ∷ []) (λ item. StartRange (field 2 0 item) (field 6 2 item) (field 6 8 item)))
+pub start_range_reader : IsReader (list_of 15 9 (store_field ∷ time_field ∷ time_field ∷ []) (λ item. StartRange (field 2 0 item) (field 6 2 item) (field 6 8 item)))
 start_range_reader octets fit long right = record {
   asked = refl;
   lone = refl;
@@ -92,7 +91,7 @@ start_range_reader octets fit long right = record {
       (Stands-then (Stands-then (Stands-number 2 0 octets fit (omega arith)) (Stands-number 6 2 octets fit (omega arith))) (Stands-number 6 8 octets fit long)).is;
 }
 
-copy_reader : IsReader (list_of 15 24 (store_field ∷ store_field ∷ time_field ∷ time_field ∷ []) (λ item. Copy (field 2 0 item) (field 2 2 item) (field 6 4 item) (field 6 10 item)))
+pub copy_reader : IsReader (list_of 15 24 (store_field ∷ store_field ∷ time_field ∷ time_field ∷ []) (λ item. Copy (field 2 0 item) (field 2 2 item) (field 6 4 item) (field 6 10 item)))
 copy_reader octets fit long right = record {
   asked = refl;
   lone = refl;
@@ -103,7 +102,7 @@ copy_reader octets fit long right = record {
       (Stands-then (Stands-then stores (Stands-number 6 4 octets fit (omega arith))) (Stands-number 6 10 octets fit long)).is;
 }
 
-resize_reader : IsReader (list_of 15 25 (store_field ∷ size_field ∷ []) (λ item. Resize (field 2 0 item) (field 4 2 item)))
+pub resize_reader : IsReader (list_of 15 25 (store_field ∷ size_field ∷ []) (λ item. Resize (field 2 0 item) (field 4 2 item)))
 resize_reader octets fit long right = record {
   asked = refl;
   lone = refl;
@@ -112,7 +111,7 @@ resize_reader octets fit long right = record {
   octets_are = (Stands-then (Stands-number 2 0 octets fit (omega arith)) (Stands-number 4 2 octets fit long)).is;
 }
 
-channel_reader : IsReader (list_of 15 28 (store_field ∷ channel_field ∷ []) (λ item. Channel (field 2 0 item) (slice_index item 2)))
+pub channel_reader : IsReader (list_of 15 28 (store_field ∷ channel_field ∷ []) (λ item. Channel (field 2 0 item) (slice_index item 2)))
 channel_reader octets fit long right = record {
   asked = refl;
   lone = refl;
@@ -127,7 +126,7 @@ store_kind-octet zero right = refl
 store_kind-octet (suc zero) right = refl
 store_kind-octet (suc (suc octet)) right = let most = ltb-false 1 (suc (suc octet)) right in absurd (omega arith)
 
-create_reader : IsReader (list_of 15 20 (store_field ∷ OneKind ∷ size_field ∷ channel_field ∷ [])
+pub create_reader : IsReader (list_of 15 20 (store_field ∷ OneKind ∷ size_field ∷ channel_field ∷ [])
     (λ item. Create (field 2 0 item) (store_kind_in (slice_index item 2)) (field 4 3 item) (slice_index item 7)))
 create_reader octets fit long right =
     let octet : nat_lt 1 (slice_index octets 2) ≡ false = ap (nat_lt 1) (sym (get_or-drop 2 octets 0 0)) ∙ right 2 (omega arith) in
@@ -143,7 +142,7 @@ create_reader octets fit long right =
 
 -- one pattern, and a store with a pattern
 
-pattern_reader : (subtype : ℕ) (make : Pattern → Instruction) → ((p : Pattern) → kind_asked (make p) ≡ (14, subtype)) → ((p : Pattern) → is_alone (make p) ≡ false)
+pub pattern_reader : (subtype : ℕ) (make : Pattern → Instruction) → ((p : Pattern) → kind_asked (make p) ≡ (14, subtype)) → ((p : Pattern) → is_alone (make p) ≡ false)
     → ((p : Pattern) → IsPattern p → IsInstruction (make p)) → ((p : Pattern) → HasPatternOctets p → HasOctets (make p)) → ((p : Pattern) → item_of (make p) ≡ pattern_octets p)
     → IsReader (list_of 14 subtype (OnePattern ∷ []) (λ item. make (pattern_in item)))
 pattern_reader subtype make asked lone lawful fits octets_are octets fit long right =
@@ -156,7 +155,7 @@ pattern_reader subtype make asked lone lawful fits octets_are octets fit long ri
       octets_are = reads.octets_are ∙ ap (λ (l : List ℕ). l ++ drop 5 octets) (sym (octets_are pattern));
     }
 
-types_reader : (subtype : ℕ) (make : ℕ → Pattern → Instruction) → ((n : ℕ) (p : Pattern) → kind_asked (make n p) ≡ (15, subtype)) → ((n : ℕ) (p : Pattern) → is_alone (make n p) ≡ false)
+pub types_reader : (subtype : ℕ) (make : ℕ → Pattern → Instruction) → ((n : ℕ) (p : Pattern) → kind_asked (make n p) ≡ (15, subtype)) → ((n : ℕ) (p : Pattern) → is_alone (make n p) ≡ false)
     → ((n : ℕ) (p : Pattern) → IsPattern p → IsInstruction (make n p)) → ((n : ℕ) (p : Pattern) → n < 65536 → HasPatternOctets p → HasOctets (make n p))
     → ((n : ℕ) (p : Pattern) → item_of (make n p) ≡ big_bytes 2 n ++ pattern_octets p)
     → IsReader (list_of 15 subtype (store_field ∷ OnePattern ∷ []) (λ item. make (field 2 0 item) (pattern_in (drop 2 item))))
@@ -174,7 +173,7 @@ types_reader subtype make asked lone lawful fits octets_are octets fit long righ
     }
 
 -- no field at all
-empty_reader : (service subtype : ℕ) (item : Instruction) → kind_asked item ≡ (service, subtype) → is_alone item ≡ true → IsInstruction item → HasOctets item → item_of item ≡ []
+pub empty_reader : (service subtype : ℕ) (item : Instruction) → kind_asked item ≡ (service, subtype) → is_alone item ≡ true → IsInstruction item → HasOctets item → item_of item ≡ []
     → IsReader (alone service subtype [] (λ octets. item))
 empty_reader service subtype item asked lone lawful fits octets_are octets fit long right = record {
   asked = asked;
@@ -183,119 +182,3 @@ empty_reader service subtype item asked lone lawful fits octets_are octets fit l
   fits = fits;
   octets_are = ap (λ (l : List ℕ). l ++ octets) (sym octets_are);
 }
-
--- what holds of each kind of a list
-abbrev Each : (P : RequestKind → Type 0) → List RequestKind → Type 0
-Each P [] = Unit {0}
-Each P (kind ∷ others) = P kind × Each P others
-
-readers : Each IsReader kinds
-readers = (
-  pattern_reader 1 ForwardAdd (λ p. refl) (λ p. refl) (λ p is. is) (λ p fits. fits) (λ p. refl),
-  (
-    pattern_reader 2 ForwardDelete (λ p. refl) (λ p. refl) (λ p is. is) (λ p fits. fits) (λ p. refl),
-    (
-      empty_reader 14 3 ForwardReport refl refl tt tt refl,
-      (
-        listed_store 1 Enable (λ n. refl) (λ n. refl) (λ n. tt) (λ n fits. fits) (λ n. refl),
-        (
-          listed_store 2 Disable (λ n. refl) (λ n. refl) (λ n. tt) (λ n fits. fits) (λ n. refl),
-          (
-            types_reader 3 AddTypes (λ n p. refl) (λ n p. refl) (λ n p is. is) (λ n p fits pattern. (fits, pattern)) (λ n p. refl),
-            (
-              types_reader 4 DeleteTypes (λ n p. refl) (λ n p. refl) (λ n p is. is) (λ n p fits pattern. (fits, pattern)) (λ n p. refl),
-              (
-                store_reader false 15 5 ReportTypes (λ n. refl) (λ n. refl) (λ n. tt) (λ n fits. fits) (λ n. refl),
-                (
-                  start_range_reader,
-                  (
-                    time_reader 11 DeleteUpTo (λ n t. refl) (λ n t. refl) (λ n t fits. fits) (λ n t fits. fits) (λ n t. refl),
-                    (
-                      listed_store 12 Summary (λ n. refl) (λ n. refl) (λ n. tt) (λ n fits. fits) (λ n. refl),
-                      (
-                        time_reader 14 OpenFrom (λ n t. refl) (λ n t. refl) (λ n t fits. fits) (λ n t fits. fits) (λ n t. refl),
-                        (
-                          listed_store 15 Resume (λ n. refl) (λ n. refl) (λ n. tt) (λ n fits. fits) (λ n. refl),
-                          (
-                            listed_store 16 Suspend (λ n. refl) (λ n. refl) (λ n. tt) (λ n fits. fits) (λ n. refl),
-                            (
-                              listed_store 17 Abort (λ n. refl) (λ n. refl) (λ n. tt) (λ n fits. fits) (λ n. refl),
-                              (
-                                empty_reader 15 18 Status refl refl tt tt refl,
-                                (
-                                  create_reader,
-                                  (
-                                    listed_store 21 Remove (λ n. refl) (λ n. refl) (λ n. tt) (λ n fits. fits) (λ n. refl),
-                                    (
-                                      empty_reader 15 22 Configuration refl refl tt tt refl,
-                                      (
-                                        copy_reader,
-                                        (
-                                          resize_reader,
-                                          (
-                                            listed_store 26 ToCircular (λ n. refl) (λ n. refl) (λ n. tt) (λ n fits. fits) (λ n. refl),
-                                            (
-                                              listed_store 27 ToBounded (λ n. refl) (λ n. refl) (λ n. tt) (λ n fits. fits) (λ n. refl),
-                                              (channel_reader, tt),
-                                            ),
-                                          ),
-                                        ),
-                                      ),
-                                    ),
-                                  ),
-                                ),
-                              ),
-                            ),
-                          ),
-                        ),
-                      ),
-                    ),
-                  ),
-                ),
-              ),
-            ),
-          ),
-        ),
-      ),
-    ),
-  ),
-)
-
--- the kind that is found is one of the list, and has this service and subtype
-found_in : (P : RequestKind → Type 0) (service subtype : ℕ) (all : List RequestKind) (kind : RequestKind) → Each P all → find (is_kind service subtype) all ≡ Some kind
-    → P kind × (kind.service ≡ service) × (kind.subtype ≡ subtype)
-found_in P service subtype [] kind each is = absurd cc
-found_in P service subtype (first ∷ others) kind each is = by (is_kind service subtype first) refl (found_in P service subtype others kind each.1)
-  where
-    by : (passes : Bool) → is_kind service subtype first ≡ passes → (find (is_kind service subtype) others ≡ Some kind → P kind × (kind.service ≡ service) × (kind.subtype ≡ subtype))
-        → P kind × (kind.service ≡ service) × (kind.subtype ≡ subtype)
-    by true passes rest =
-        let here : Some first ≡ Some kind = sym (ap (λ (b : Bool). if b then Some first else find (is_kind service subtype) others) passes) ∙ is in
-        let same : first ≡ kind = cc in
-        let parts = and_parts (first.service == service) (first.subtype == subtype) passes in
-        subst (λ (k : RequestKind). P k × (k.service ≡ service) × (k.subtype ≡ subtype)) same (each.0, eqb-true first.service service parts.0, eqb-true first.subtype subtype parts.1)
-    by false passes rest = rest (sym (ap (λ (b : Bool). if b then Some first else find (is_kind service subtype) others) passes) ∙ is)
-
-Each-from_test : (test : RequestKind → Bool) (all : List RequestKind) → list_all test all ≡ true → Each (λ (kind : RequestKind). test kind ≡ true) all
-Each-from_test test [] passes = tt
-Each-from_test test (first ∷ others) passes =
-    let parts = and_parts (test first) (list_all test others) passes in (parts.0, Each-from_test test others parts.1)
-
--- the services that have kinds
-abbrev pub is_service : ℕ → Bool
-is_service service = service == 14 || service == 15
-
-pub service_found : (service subtype : ℕ) (kind : RequestKind) → kind_in service subtype ≡ Some kind → is_service service ≡ true
-service_found service subtype kind is =
-    let served = λ (k : RequestKind). is_service k.service in
-    let found = found_in (λ (k : RequestKind). served k ≡ true) service subtype kinds kind (Each-from_test served kinds refl) is in
-    ap is_service (sym found.1) ∙ found.0
-
--- no item has more than 16 octets
-pub width_found : (service subtype : ℕ) (kind : RequestKind) → kind_in service subtype ≡ Some kind → width_of kind.fields ≤ 16
-width_found service subtype kind is =
-    let is_narrow = λ (k : RequestKind). nat_le (width_of k.fields) 16 in
-    leb-true (width_of kind.fields) 16 (found_in (λ (k : RequestKind). is_narrow k ≡ true) service subtype kinds kind (Each-from_test is_narrow kinds refl) is).0
-
-pub reader_found : (service subtype : ℕ) (kind : RequestKind) → kind_in service subtype ≡ Some kind → IsReader kind × (kind.service ≡ service) × (kind.subtype ≡ subtype)
-reader_found service subtype kind is = found_in IsReader service subtype kinds kind readers is

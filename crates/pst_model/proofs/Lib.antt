@@ -5,12 +5,14 @@ pub mod Counted
 pub mod ItemOctets
 mod ItemRows
 pub mod Joined
+pub mod KindsFound
 pub mod KindsRead
 pub mod KindsWritten
 pub mod Leasts
 pub mod PatternItems
 pub mod Puts
 mod ReportRows
+pub mod RequestData
 pub mod RequestItems
 mod RequestRows
 pub mod Runs

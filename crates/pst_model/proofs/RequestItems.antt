@@ -24,6 +24,29 @@ abbrev pub AreRight : RequestKind → (count : ℕ) → List ℕ → Type 0
 AreRight kind zero octets = Unit {0}
 AreRight kind (suc count) octets = IsRight kind.fields octets × AreRight kind count (drop (width_of kind.fields) octets)
 
+-- right octets of items one behind another, and by their numbers
+
+pub AreRight-by_number : (kind : RequestKind) (count : ℕ) (octets : List ℕ) → ((number : ℕ) → number < count → IsRight kind.fields (drop (number * width_of kind.fields) octets)) → AreRight kind count octets
+AreRight-by_number kind zero octets right = tt
+AreRight-by_number kind (suc count) octets right =
+    let width = width_of kind.fields in
+    let none : 0 * width ≡ 0 = omega arith in (
+      subst (λ (n : ℕ). IsRight kind.fields (drop n octets)) none (right 0 (omega arith)),
+      AreRight-by_number kind count (drop width octets)
+          (λ number before.
+          let place : suc number * width ≡ width + number * width = omega arith in
+          subst (IsRight kind.fields) (ap (λ (n : ℕ). drop n octets) place ∙ sym (drop-drop (number * width) width octets)) (right (suc number) (omega arith))),
+    )
+
+pub right_by_number : (kind : RequestKind) (count : ℕ) (octets : List ℕ) → AreRight kind count octets → (number : ℕ) → number < count → IsRight kind.fields (drop (number * width_of kind.fields) octets)
+right_by_number kind zero octets right number before = absurd (omega arith)
+right_by_number kind (suc count) octets right zero before =
+    let none : 0 ≡ 0 * width_of kind.fields = omega arith in subst (λ (n : ℕ). IsRight kind.fields (drop n octets)) none right.0
+right_by_number kind (suc count) octets right (suc number) before =
+    let width = width_of kind.fields in
+    let place : width + number * width ≡ suc number * width = omega arith in
+    subst (IsRight kind.fields) (drop-drop (number * width) width octets ∙ ap (λ (n : ℕ). drop n octets) place) (right_by_number kind count (drop width octets) right.1 number (omega arith))
+
 -- Lists of items that are read.
 
 pub length-items_from : (kind : RequestKind) (count : ℕ) (octets : List ℕ) → length (items_from kind count octets) ≡ count

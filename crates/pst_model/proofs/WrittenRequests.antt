@@ -8,7 +8,8 @@ use Rattle.pus_header.specs.Commands.{IsCommandPacket, source_of}
 use Rattle.control_defs.specs.declared.instructions.Instruction.{Instruction}
 use Rattle.pst_model.specs.ReadBack.{ReadsBack}
 use Rattle.pst_model.specs.Requests.{AreAsked, data_of, request_packet, request_primary, request_secondary}
-use Rattle.pst_model.proofs.SpelledRequests.{items_in-data_of, length-data_most, none-data_of}
+use Rattle.pst_model.proofs.RequestData.{length-data_most}
+use Rattle.pst_model.proofs.SpelledRequests.{items_in-data_of, none-data_of}
 
 -- the packet of a request with this data
 abbrev packet_with : (count acks service subtype source : ℕ) → List ℕ → List ℕ

@@ -74,11 +74,18 @@ place_of kind number = front_of kind + number * width_of kind.fields
 abbrev pub length_asked : RequestKind → List ℕ → ℕ
 length_asked kind body = place_of kind (count_in kind body)
 
+-- the number of the item in which a place is, and how far behind the item's place
+abbrev pub number_at : RequestKind → (place : ℕ) → ℕ
+number_at kind place = (place - front_of kind) / width_of kind.fields
+
+abbrev pub place_within : RequestKind → (place : ℕ) → ℕ
+place_within kind place = (place - front_of kind) % width_of kind.fields
+
 -- whether the octet at this place is wrong in its item
 abbrev pub is_wrong_at : RequestKind → List ℕ → (place : ℕ) → Bool
 is_wrong_at kind body place =
     nat_le (front_of kind) place
-    && is_wrong_in kind.fields (drop (place_of kind ((place - front_of kind) / width_of kind.fields)) body) ((place - front_of kind) % width_of kind.fields)
+    && is_wrong_in kind.fields (drop (place_of kind (number_at kind place)) body) (place_within kind place)
 
 -- The place where data is malformed: that of a count that is missing or not from 1 to 32, else that of the
 -- first octet that is missing or too many, else that of the first octet that is wrong.

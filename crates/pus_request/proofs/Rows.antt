@@ -5,8 +5,8 @@ use Rattle.pst_model.specs.Items.{kind_asked}
 use Rattle.pst_model.specs.Layouts.{kind_in}
 use Rattle.pst_model.specs.Requests.{SpellsRequest, items_by, malformed_at}
 use Rattle.pst_model.proofs.ItemOctets.{AreOctets}
-use Rattle.pst_model.proofs.KindsRead.{reader_found}
-use Rattle.pst_model.proofs.SpelledRequests.{spelled-by_kind}
+use Rattle.pst_model.proofs.KindsFound.{reader_found}
+use Rattle.pst_model.proofs.RequestData.{spelled-by_kind}
 use Rattle.pst_model.proofs.WholeRequests.{whole-from_none}
 use Rattle.pus_request.specs.declared.kinds.Kind.{Kind}
 use Rattle.pus_request.specs.declared.kinds.Kind.TheVariants.{ForwardAdd, ForwardDelete, ForwardReport, Enable, Disable, AddTypes, DeleteTypes, ReportTypes, StartRange, DeleteUpTo, Summary, OpenFrom, Resume, Suspend, Abort, Status, Create, Remove, Configuration, Copy, Resize, ToCircular, ToBounded, Channel}

@@ -11,7 +11,7 @@ use Rattle.pst_model.specs.Layouts.{kind_in}
 use Rattle.std.specs.Prelude.{if◌then◌else◌}
 use Rattle.pst_model.specs.Requests.{AreAsked, count_octets, data_of, front_of, items_octets, place_of, request_packet, request_primary, request_secondary, service_of_items, subtype_of_items}
 use Rattle.pst_model.proofs.RequestItems.{items_octets-more}
-use Rattle.pst_model.proofs.SpelledRequests.{count_octets-kind, length-data_most, length-data_of}
+use Rattle.pst_model.proofs.RequestData.{count_octets-kind, length-data_most, length-data_of}
 use Rattle.pus_request.specs.declared.kinds.Kind.{Kind}
 use Rattle.pus_request.specs.Kinds.{asked_by, row_of}
 use Rattle.pus_request.proofs.Rows.{found-row}
