@@ -6,6 +6,9 @@ returns-in-Arrival-clause-table g c = rw c.in-Arrival.is c.arrival.ensures.table
 pub returns-in-Arrival-clause-sends : goal.returns-in-Arrival-clause-sends
 returns-in-Arrival-clause-sends g c = rw c.in-Arrival.is c.arrival.ensures.sends
 
+pub returns-in-Arrival-clause-breaks : goal.returns-in-Arrival-clause-breaks
+returns-in-Arrival-clause-breaks g c = rw c.in-Arrival.is c.arrival.ensures.breaks
+
 pub returns-in-Request-clause-table : goal.returns-in-Request-clause-table
 returns-in-Request-clause-table g c = rw c.in-Request.is c.request.ensures.table
 
