@@ -5,6 +5,7 @@ mod failures;
 mod forms;
 mod long;
 mod packets;
+mod patterns;
 mod requests;
 mod worked;
 
