@@ -76,7 +76,12 @@ impl Buffers {
         ensures breaks { OnErr result ((number : ℕ) → BreaksIn B.device B.moment B.sent B.counts board.old board.new
             (record { command = number; kind = Reply; channel = 0; packet = take size (written_in self.old) } ∷ [])) }
     {
-        send_line(board, REPORTS, &self.report[..size as usize], &mut self.line)
+        send_line(
+            board,
+            REPORTS,
+            &self.report[..size as usize],
+            &mut self.line,
+        )
     }
 
     // Writes the report of a verdict, and answers its length.

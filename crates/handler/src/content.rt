@@ -67,7 +67,11 @@ pub fn write_content(table: &MemTable, items: &Items<'_>, head: Head, out: &mut 
         }
         Instruction::Summary(_) => write_rows(summaries(table, items).as_slice(), head, out),
         Instruction::Status => Some(write_status(head, &[table.status()], out)),
-        Instruction::Configuration => Some(write_configuration(head, &[table.configuration()], out)),
+        Instruction::Configuration => Some(write_configuration(
+            head,
+            &[table.configuration()],
+            out,
+        )),
         _ => None,
     }
 }

@@ -89,8 +89,8 @@ pub fn identifier_of(packet: PacketView<'_>) -> [u8; 4]
 pub fn judge<'a>(packet: PacketView<'a>) -> Result<Request<'a>, Verdict>
     ensures { let octets = octets_of packet.entry in MatchResult result
         (λ request. (refusal_of octets ≡ None) × (request.acks ≡ acks_of octets)
-            × (listed request.items ≡ items_in (service_of octets) (subtype_of octets) (data_in octets))
-            × (is_pending (asked request.items).0 (asked request.items).1 ≡ false))
+        × (listed request.items ≡ items_in (service_of octets) (subtype_of octets) (data_in octets))
+        × (is_pending (asked request.items).0 (asked request.items).1 ≡ false))
         (λ verdict. refusal_of octets ≡ Some verdict) }
 {
     if packet.apid() != APID {
@@ -104,9 +104,7 @@ pub fn judge<'a>(packet: PacketView<'a>) -> Result<Request<'a>, Verdict>
         Err(fault) => return Err(header_refusal(fault)),
     };
     if is_pending(command.service(), command.subtype()) {
-        return Err(request_refusal(RequestFault::UnknownSubtype(
-            command.subtype(),
-        )));
+        return Err(request_refusal(RequestFault::UnknownSubtype(command.subtype())));
     }
     match read_request(&command) {
         Ok(items) => Ok(Request {

@@ -102,8 +102,22 @@ pub fn send_answer<B: Board>(
     ensures breaks { OnErr result ((number : ℕ) → BreaksIn B.device B.moment B.sent B.counts board.old board.new
         (replied number moment (table_of table.old) (reports_in request decision.now (table_of table.old))).outputs) }
 {
-    let first = send_verdicts(board, table, buffers, moment, request, decision.before.as_slice())?;
+    let first = send_verdicts(
+        board,
+        table,
+        buffers,
+        moment,
+        request,
+        decision.before.as_slice(),
+    )?;
     let content = send_content(board, table, buffers, moment, decision.asked)?;
-    let last = send_verdicts(board, table, buffers, moment, request, decision.after.as_slice())?;
+    let last = send_verdicts(
+        board,
+        table,
+        buffers,
+        moment,
+        request,
+        decision.after.as_slice(),
+    )?;
     Ok(first.and(content, last))
 }

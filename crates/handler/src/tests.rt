@@ -4,7 +4,7 @@ use super::*;
 use crate::refusal::Refusal;
 use crate::table::MemTable;
 use board::{CallKind, MemBoard};
-use control_defs::Instruction;
+use control_defs::{Instruction, Pattern};
 use space_packet::PacketView;
 use std::alloc::{AllocError, Global};
 use std::test::Fail;
@@ -71,8 +71,49 @@ fn instructions_fail(rt: HostRuntime) -> Result<(), Fail> {
     assert!(rt; table.carry_out(Instruction::Suspend(BOOT)).is_ok());
     assert!(rt; table.carry_out(Instruction::Suspend(BOOT)) == so);
     assert!(rt; table.carry_out(Instruction::Enable(2)) == Err(Refusal::UnknownStore));
+    assert!(rt; table.carry_out(Instruction::ReportTypes(0)) == Err(Refusal::UnknownStore));
+    assert!(rt; table.carry_out(Instruction::Summary(65535)) == Err(Refusal::UnknownStore));
+    let absent = Err(Refusal::PatternAbsent);
+    assert!(rt; table.carry_out(Instruction::ForwardDelete(Pattern::Every)) == absent);
     assert_eq!(rt; Refusal::UnknownStore.code(), 6);
+    assert_eq!(rt; Refusal::PatternLimit.code(), 20);
+    assert_eq!(rt; Refusal::PatternAbsent.code(), 21);
     assert_eq!(rt; Refusal::AlreadySo.code(), 22);
+    Ok(())
+}
+
+#[test]
+fn patterns_of_the_store_and_of_what_is_forwarded_are_apart(rt: HostRuntime) -> Result<(), Fail> {
+    let mut table = MemTable::new(rt.alloc())?;
+    let store = BOOT;
+    let pattern = Pattern::App(100);
+    assert!(rt; table.forward().is_empty());
+    assert!(rt; table.types() == [Pattern::Every].as_slice());
+    assert!(rt; table.carry_out(Instruction::ForwardAdd(pattern)).is_ok());
+    assert!(rt;
+        table
+            .carry_out(Instruction::AddTypes { store, pattern })
+            .is_ok()
+    );
+    assert!(rt; table.forward() == [pattern].as_slice());
+    assert!(rt; table.types() == [Pattern::Every].as_slice());
+    let absent = Instruction::DeleteTypes { store, pattern };
+    assert!(rt; table.carry_out(absent) == Err(Refusal::PatternAbsent));
+    let every = Instruction::DeleteTypes {
+        store,
+        pattern: Pattern::Every,
+    };
+    assert!(rt; table.carry_out(every).is_ok());
+    assert!(rt;
+        table
+            .carry_out(Instruction::AddTypes { store, pattern })
+            .is_ok()
+    );
+    assert!(rt; table.carry_out(Instruction::ForwardDelete(pattern)).is_ok());
+    assert!(rt; table.forward().is_empty());
+    assert!(rt; table.types() == [pattern].as_slice());
+    let other = Instruction::AddTypes { store: 2, pattern };
+    assert!(rt; table.carry_out(other) == Err(Refusal::UnknownStore));
     Ok(())
 }
 
@@ -91,6 +132,39 @@ fn reports_are_counted(rt: HostRuntime) -> Result<(), Fail> {
 
 // A request [15,16] of store 1, which asks for two reports.
 const SUSPEND: [u8; 14] = [0x18, 0x0a, 0xc0, 0, 0, 7, 0x29, 0x0f, 0x10, 0, 0, 1, 0, 1];
+
+// A request [14,1] of every packet, which asks for no report.
+const FORWARD: [u8; 17] = [
+    0x18, 0x0a, 0xc0, 0, 0, 10, 0x20, 0x0e, 1, 0, 0, 1, 0, 0, 0, 0, 0,
+];
+
+#[test]
+fn a_forwarded_line_is_counted(rt: HostRuntime) -> Result<(), Fail> {
+    let alloc = rt.alloc();
+    let mut board = MemBoard::new(alloc, 16)?;
+    let mut handler = Handler::new(alloc)?;
+    let octets = short(7);
+    let (Ok(packet), Ok(request)) = (PacketView::read(&octets), PacketView::read(&FORWARD)) else {
+        panic!(rt; "no packets");
+    };
+    assert!(rt; handler.is_open());
+    assert!(rt; handler.request(alloc, &mut board, 1, request) == Ok(Sent::default()));
+    let forwarded = Sent {
+        forwarded: 1,
+        octets: 17,
+        ..Sent::default()
+    };
+    assert!(rt; handler.is_open());
+    assert!(rt; handler.arrival(alloc, &mut board, 2, packet) == Ok(forwarded));
+    board.plan(
+        CallKind::Send,
+        board.count(CallKind::Send).saturating_add(1),
+    )?;
+    assert!(rt; handler.is_open());
+    assert!(rt; handler.arrival(alloc, &mut board, 3, packet) == Err(HandlerFault::Link));
+    assert!(rt; !handler.is_open());
+    Ok(())
+}
 
 #[test]
 fn each_call_counts_its_lines(rt: HostRuntime) -> Result<(), Fail> {

@@ -30,7 +30,7 @@ returns-in_err-octets-clause-breaks g c =
     let asked : content_asked c.args.asked (table_of c.args.table.now) ≡ content_report (listed c.in-Some.items) (table_of c.args.table.now) =
     ap (λ (asked : Option Items). content_asked asked (table_of c.args.table.now)) c.in-Some.is in
     let held : (number : ℕ) → ◌≡◌ {A = List Output} (record { command = number; kind = Reply; channel = 0; packet = take c.in-Some-write_content.length (written_in c.write_content.new.self) } ∷ [])
-        (replies_from number c.args.moment c.args.table.now.reports (content_asked c.args.asked (table_of c.args.table.now))) =
+    (replies_from number c.args.moment c.args.table.now.reports (content_asked c.args.asked (table_of c.args.table.now))) =
     λ number. reply-held number c.args.moment c.count.result c.args.table.now.reports (content_report (listed c.in-Some.items) (table_of c.args.table.now)) (written_in c.write_content.new.self) c.in-Some-write_content.length c.count.ensures.reports c.in-Some-write_content.ensures.some
     ∙ ap (replies_from number c.args.moment c.args.table.now.reports) (sym asked) in
     on_err c.from_residual.result
@@ -43,7 +43,7 @@ returns-clause-sends g c number =
     let asked : content_asked c.args.asked (table_of c.args.table.now) ≡ content_report (listed c.in-Some.items) (table_of c.args.table.now) =
     ap (λ (asked : Option Items). content_asked asked (table_of c.args.table.now)) c.in-Some.is in
     let held : (number : ℕ) → ◌≡◌ {A = List Output} (record { command = number; kind = Reply; channel = 0; packet = take c.in-Some-write_content.length (written_in c.write_content.new.self) } ∷ [])
-        (replies_from number c.args.moment c.args.table.now.reports (content_asked c.args.asked (table_of c.args.table.now))) =
+    (replies_from number c.args.moment c.args.table.now.reports (content_asked c.args.asked (table_of c.args.table.now))) =
     λ number. reply-held number c.args.moment c.count.result c.args.table.now.reports (content_report (listed c.in-Some.items) (table_of c.args.table.now)) (written_in c.write_content.new.self) c.in-Some-write_content.length c.count.ensures.reports c.in-Some-write_content.ensures.some
     ∙ ap (replies_from number c.args.moment c.args.table.now.reports) (sym asked) in
     subst (λ (outputs : List Output). SendsLines board.device board.moment board.sent board.counts c.args.board.now c.send_report.new.board outputs) (held number) (c.in_ok-octets.ensures.sends number)
@@ -53,7 +53,7 @@ returns-clause-counted g c number =
     let asked : content_asked c.args.asked (table_of c.args.table.now) ≡ content_report (listed c.in-Some.items) (table_of c.args.table.now) =
     ap (λ (asked : Option Items). content_asked asked (table_of c.args.table.now)) c.in-Some.is in
     let held : (number : ℕ) → ◌≡◌ {A = List Output} (record { command = number; kind = Reply; channel = 0; packet = take c.in-Some-write_content.length (written_in c.write_content.new.self) } ∷ [])
-        (replies_from number c.args.moment c.args.table.now.reports (content_asked c.args.asked (table_of c.args.table.now))) =
+    (replies_from number c.args.moment c.args.table.now.reports (content_asked c.args.asked (table_of c.args.table.now))) =
     λ number. reply-held number c.args.moment c.count.result c.args.table.now.reports (content_report (listed c.in-Some.items) (table_of c.args.table.now)) (written_in c.write_content.new.self) c.in-Some-write_content.length c.count.ensures.reports c.in-Some-write_content.ensures.some
     ∙ ap (replies_from number c.args.moment c.args.table.now.reports) (sym asked) in
     subst (λ (outputs : List Output). IsCountOf outputs (record c.default-2.result { replies = 1; octets = c.from.result })) (held number)
