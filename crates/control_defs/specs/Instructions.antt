@@ -1,8 +1,15 @@
--- Instructions whose parts are within their ranges.
-use Rattle.std.specs.Prelude.{◌<◌, ◌^◌}
+-- Kinds of store, and instructions whose parts are within their ranges.
+use Rattle.std.specs.Prelude.{ℕ, ◌<◌, ◌^◌}
 use Rattle.control_defs.specs.declared.instructions.Instruction.{Instruction}
 use Rattle.control_defs.specs.declared.instructions.Instruction.TheVariants.{ForwardAdd, ForwardDelete, AddTypes, DeleteTypes, StartRange, DeleteUpTo, OpenFrom, Copy}
+use Rattle.control_defs.specs.declared.instructions.StoreKind.{StoreKind}
+use Rattle.control_defs.specs.declared.instructions.StoreKind.TheVariants.{Circular, Bounded}
 use Rattle.control_defs.specs.Patterns.{IsPattern}
+
+-- a kind of store as an octet
+abbrev pub kind_octet : StoreKind → ℕ
+kind_octet Circular = 0
+kind_octet Bounded = 1
 
 -- its patterns are patterns, and its times have 48 bits
 abbrev pub IsInstruction : Instruction → Type 0

@@ -11,6 +11,21 @@ pub enum StoreKind {
     Bounded,
 }
 
+impl StoreKind {
+    ghost use Rattle.std.specs.Prelude.{◌≡◌};
+    ghost use Rattle.control_defs.specs.Instructions.{kind_octet};
+
+    /// The octet that says it in requests and reports: 0 of a circular store, 1 of a bounded one.
+    pub fn octet(self) -> u8
+        ensures { result ≡ kind_octet self }
+    {
+        match self {
+            StoreKind::Circular => 0,
+            StoreKind::Bounded => 1,
+        }
+    }
+}
+
 /// One instruction of a request. A `store`, `from` or `to`, or a lone number, is the identifier of a
 /// packet store; times are in 1/65,536 s and below 2^48, sizes are in pages of 256 octets.
 #[derive(Clone, Copy, Debug, PartialEq, Eq)]

@@ -5,7 +5,7 @@ use Rattle.control_defs.specs.declared.patterns.Pattern.{Pattern}
 use Rattle.pus_header.specs.Keys.{key_of}
 use Rattle.handler.specs.declared.table.MemTable.{MemTable}
 use Rattle.handler.specs.Kept.{packets_of}
-use Rattle.pst_model.specs.Rules.{any_covers}
+use Rattle.control_defs.specs.Patterns.{any_covers}
 use Rattle.pst_model.specs.Table.{Store, Stored, Table, after_format, boot_store}
 
 -- the boot store with what changes of it

@@ -20,7 +20,7 @@ const LONGEST_REPORT: usize = 1024;
 /// The octets of the longest output line.
 const LONGEST_LINE: usize = 8195;
 
-/// The channel of forwarded packets and of reports.
+/// The channel of reports.
 const REPORTS: u8 = 0;
 
 /// Room for one report and one line.

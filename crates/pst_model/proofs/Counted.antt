@@ -11,7 +11,8 @@ use Rattle.pst_model.specs.Command.{Command, Arrival, Request, Grant}
 use Rattle.pst_model.specs.Laws.{is_reply, replies_in}
 use Rattle.pst_model.specs.Reports.{Report, count_behind}
 use Rattle.pst_model.specs.Requests.{items_in}
-use Rattle.pst_model.specs.Rules.{Output, Step, any_covers, arrive, grant_open, grant_range, has_ahead, has_range}
+use Rattle.control_defs.specs.Patterns.{any_covers}
+use Rattle.pst_model.specs.Rules.{Output, Step, arrive, grant_open, grant_range, has_ahead, has_range}
 use Rattle.pst_model.specs.Run.{step}
 use Rattle.pst_model.specs.Table.{Store, Table}
 use Rattle.pst_model.proofs.Carried.{carry_keeps, instruct_reports}

@@ -7,10 +7,10 @@ use Rattle.std.specs.Prelude.{nat_lt}
 use Rattle.octet_fields.specs.Fields.{big_bytes, field}
 use Rattle.control_defs.specs.declared.instructions.Instruction.{Instruction}
 use Rattle.control_defs.specs.declared.instructions.Instruction.TheVariants.{StartRange, Create, Copy, Resize, Channel}
-use Rattle.control_defs.specs.Instructions.{IsInstruction}
+use Rattle.control_defs.specs.Instructions.{kind_octet, IsInstruction}
 use Rattle.control_defs.specs.declared.patterns.Pattern.{Pattern}
 use Rattle.control_defs.specs.Patterns.{IsPattern}
-use Rattle.pst_model.specs.Items.{HasOctets, is_alone, item_of, kind_asked, store_kind_octet}
+use Rattle.pst_model.specs.Items.{HasOctets, is_alone, item_of, kind_asked}
 use Rattle.pst_model.specs.Layouts.{Field, OneKind, OnePattern, RequestKind, alone, channel_field, is_wrong_in, is_wrong_in_field, list_of, size_field, store_field, store_kind_in, time_field, width_of, width_of_field}
 use Rattle.pst_model.specs.PatternOctets.{HasPatternOctets, pattern_in, pattern_octets}
 use Rattle.pst_model.proofs.ItemOctets.{AreOctets, Stands-number, Stands-octet, Stands-then, field-lt, octet-lt}
@@ -121,7 +121,7 @@ channel_reader octets fit long right = record {
 }
 
 -- an octet that is 0 or 1, as that of what a store does when it is full
-store_kind-octet : (octet : ℕ) → nat_lt 1 octet ≡ false → store_kind_octet (store_kind_in octet) ≡ octet
+store_kind-octet : (octet : ℕ) → nat_lt 1 octet ≡ false → kind_octet (store_kind_in octet) ≡ octet
 store_kind-octet zero right = refl
 store_kind-octet (suc zero) right = refl
 store_kind-octet (suc (suc octet)) right = let most = ltb-false 1 (suc (suc octet)) right in absurd (omega arith)
@@ -130,7 +130,7 @@ pub create_reader : IsReader (list_of 15 20 (store_field ∷ OneKind ∷ size_fi
     (λ item. Create (field 2 0 item) (store_kind_in (slice_index item 2)) (field 4 3 item) (slice_index item 7)))
 create_reader octets fit long right =
     let octet : nat_lt 1 (slice_index octets 2) ≡ false = ap (nat_lt 1) (sym (get_or-drop 2 octets 0 0)) ∙ right 2 (omega arith) in
-    let kind : store_kind_octet (store_kind_in (slice_index octets 2)) ≡ slice_index octets 2 = store_kind-octet (slice_index octets 2) octet in
+    let kind : kind_octet (store_kind_in (slice_index octets 2)) ≡ slice_index octets 2 = store_kind-octet (slice_index octets 2) octet in
     let first = Stands-then (Stands-number 2 0 octets fit (omega arith)) (Stands-octet 2 octets (omega arith)) in
     let all = Stands-then (Stands-then first (Stands-number 4 3 octets fit (omega arith))) (Stands-octet 7 octets (omega arith)) in record {
       asked = refl;

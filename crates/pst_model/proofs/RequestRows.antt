@@ -53,7 +53,7 @@ subtype_29 = refl
 subtype_4_of_14 : request_fault_of 14 4 (1 ∷ 0 ∷ 1 ∷ []) ≡ Some (UnknownSubtype 4)
 subtype_4_of_14 = refl
 
--- what is spelled by each kind
+-- what lists of stores spell
 enabled : items_in 15 1 (1 ∷ 0x01 ∷ 0x02 ∷ []) ≡ Enable 258 ∷ []
 enabled = refl
 

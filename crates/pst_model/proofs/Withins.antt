@@ -16,7 +16,8 @@ use Rattle.pst_model.specs.Answers.{answer_by, data_in, refusal_of}
 use Rattle.pst_model.specs.Instructions.{add_pattern, change_store, delete_pattern, with_types, instruct, is_named, set_open, set_storage}
 use Rattle.pst_model.specs.Laws.{IsWithin}
 use Rattle.pst_model.specs.Requests.{items_in}
-use Rattle.pst_model.specs.Rules.{Refused, Step, Taken, any_covers, arrive, at_first, behind_put, grant_open, grant_range, has_ahead, has_range, is_refused, offered, put, range_sent, to_drop, with_last}
+use Rattle.control_defs.specs.Patterns.{any_covers}
+use Rattle.pst_model.specs.Rules.{Refused, Step, Taken, arrive, at_first, behind_put, grant_open, grant_range, has_ahead, has_range, is_refused, offered, put, range_sent, to_drop, with_last}
 use Rattle.pst_model.specs.Run.{step}
 use Rattle.pst_model.proofs.Carried.{asked_keeps, carry_keeps, forward_keeps, types_keeps, change_keeps, found_has, open_keeps, storage_keeps}
 use Rattle.pst_model.specs.Table.{Store, Stored, Table, drop_front}

@@ -71,8 +71,8 @@ with_types store (Err code) = Err code
 abbrev pub asked_about : (identifier : ℕ) → Table → Result Table ℕ
 asked_about identifier table = if is_some (find (is_named identifier) table.stores) then Ok table else Err unknown_store
 
--- The table after an instruction, or the code with which it fails. A kind of instruction that is not built
--- yet has the code of its subtype.
+-- The table after an instruction, or the code with which it fails. Of the kinds that are not carried out yet
+-- no request comes this far.
 abbrev pub instruct : Instruction → Table → Result Table ℕ
 instruct (ForwardAdd pattern) table = with_forward table (add_pattern pattern table.forward)
 instruct (ForwardDelete pattern) table = with_forward table (delete_pattern pattern table.forward)

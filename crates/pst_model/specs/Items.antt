@@ -3,8 +3,7 @@ use Rattle.std.specs.Prelude.{◌<◌, ◌^◌, ℕ, Bool, true, false, List, []
 use Rattle.octet_fields.specs.Fields.{big_bytes}
 use Rattle.control_defs.specs.declared.instructions.Instruction.{Instruction}
 use Rattle.control_defs.specs.declared.instructions.Instruction.TheVariants.{ForwardAdd, ForwardDelete, ForwardReport, Enable, Disable, AddTypes, DeleteTypes, ReportTypes, StartRange, DeleteUpTo, Summary, OpenFrom, Resume, Suspend, Abort, Status, Create, Remove, Configuration, Copy, Resize, ToCircular, ToBounded, Channel}
-use Rattle.control_defs.specs.declared.instructions.StoreKind.{StoreKind}
-use Rattle.control_defs.specs.declared.instructions.StoreKind.TheVariants.{Circular, Bounded}
+use Rattle.control_defs.specs.Instructions.{kind_octet}
 use Rattle.pst_model.specs.PatternOctets.{HasPatternOctets, pattern_octets}
 
 -- the service type and the message subtype of a request for an instruction
@@ -42,11 +41,6 @@ is_alone Status = true
 is_alone Configuration = true
 is_alone _ = false
 
--- what a store does when it is full, as an octet
-abbrev pub store_kind_octet : StoreKind → ℕ
-store_kind_octet Circular = 0
-store_kind_octet Bounded = 1
-
 -- the octets of an instruction's fields, one behind another
 abbrev pub item_of : Instruction → List ℕ
 item_of (ForwardAdd pattern) = pattern_octets pattern
@@ -65,7 +59,7 @@ item_of (Resume store) = big_bytes 2 store
 item_of (Suspend store) = big_bytes 2 store
 item_of (Abort store) = big_bytes 2 store
 item_of Status = []
-item_of (Create store kind size channel) = ((big_bytes 2 store ++ store_kind_octet kind ∷ []) ++ big_bytes 4 size) ++ channel ∷ []
+item_of (Create store kind size channel) = ((big_bytes 2 store ++ kind_octet kind ∷ []) ++ big_bytes 4 size) ++ channel ∷ []
 item_of (Remove store) = big_bytes 2 store
 item_of Configuration = []
 item_of (Copy from to t1 t2) = ((big_bytes 2 from ++ big_bytes 2 to) ++ big_bytes 6 t1) ++ big_bytes 6 t2

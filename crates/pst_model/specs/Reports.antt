@@ -3,8 +3,7 @@ use Rattle.std.specs.Prelude.{ℕ, ◌+◌, ◌<◌, ◌^◌, ◌%◌, List, [],
 use Rattle.std.specs.Int.{from_bool}
 use Rattle.std.specs.List.{flat_map}
 use Rattle.octet_fields.specs.Fields.{big_bytes}
-use Rattle.control_defs.specs.declared.instructions.StoreKind.{StoreKind}
-use Rattle.control_defs.specs.declared.instructions.StoreKind.TheVariants.{Circular, Bounded}
+use Rattle.control_defs.specs.Instructions.{kind_octet}
 use Rattle.control_defs.specs.declared.patterns.Pattern.{Pattern}
 use Rattle.pus_header.specs.Reports.{report_head}
 use Rattle.pst_model.specs.PatternOctets.{pattern_octets}
@@ -92,10 +91,6 @@ abbrev pub status_report : List StatusRow → Report
 status_report rows = record { service = 15; subtype = 19; content = listed_octets status_octets rows }
 
 -- [15,23]: how stores are made
-abbrev pub kind_octet : StoreKind → ℕ
-kind_octet Circular = 0
-kind_octet Bounded = 1
-
 abbrev pub config_octets : ConfigRow → List ℕ
 config_octets row = big_bytes 2 row.store ++ kind_octet row.kind ∷ [] ++ big_bytes 4 row.size ++ row.channel ∷ []
 

@@ -1,13 +1,10 @@
 -- What arrivals and grants do to the table (ECSS-E-ST-70-41C, 6.14.3 and 6.15.3).
 use Rattle.std.specs.Prelude.{ℕ, ◌+◌, ◌-◌, ◌==◌, ◌&&◌, ◌||◌, nat_le, nat_lt, max, Bool, true, false, is_some, if◌then◌else◌, List, [], ◌∷◌, ◌++◌, length, map, find, get_or, Option, Some, None}
-use Rattle.std.specs.List.{list_any}
 use Rattle.space_packet.specs.Charge.{charge_of}
 use Rattle.space_packet.specs.Packet.{apid_of}
 use Rattle.control_defs.specs.declared.instructions.StoreKind.{StoreKind}
 use Rattle.control_defs.specs.declared.instructions.StoreKind.TheVariants.{Circular, Bounded}
-use Rattle.control_defs.specs.declared.keys.Key.{Key}
-use Rattle.control_defs.specs.declared.patterns.Pattern.{Pattern}
-use Rattle.control_defs.specs.Patterns.{covers}
+use Rattle.control_defs.specs.Patterns.{any_covers}
 use Rattle.pus_header.specs.Keys.{key_of}
 use Rattle.pst_model.specs.Least.{least}
 use Rattle.pst_model.specs.Table.{Store, Stored, Table, content_of, drop_front}
@@ -28,10 +25,6 @@ pub record Output : Type 0 where
 pub record Step : Type 0 where
   pub table : Table
   pub outputs : List Output
-
--- whether one of the patterns covers the key
-abbrev pub any_covers : List Pattern → Key → Bool
-any_covers patterns key = list_any (λ pattern. covers pattern key) patterns
 
 -- What a put gives: the store with the packet, or a refusal with the pages that it needs and those free.
 pub data Put : Type 0 where

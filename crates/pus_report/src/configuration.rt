@@ -2,10 +2,9 @@
 ghost use Rattle.std.specs.Prelude.{◌≡◌, ◌+◌, ◌*◌, ◌<◌, ◌≤◌, ◌^◌, ◌++◌, length, drop};
 ghost use Rattle.octet_fields.specs.Fields.{Writes};
 ghost use Rattle.space_packet.specs.Packet.{IsPacket};
-ghost use Rattle.pst_model.specs.Reports.{config_octets, configuration_report, kind_octet, listed_octets, report_packet};
+ghost use Rattle.pst_model.specs.Reports.{config_octets, configuration_report, listed_octets, report_packet};
 
 use crate::head::{HEADERS, Head, STORAGE, put_head};
-use control_defs::StoreKind;
 use octet_fields::{put_u8, put_u16, put_u32};
 use pst_model::ConfigRow;
 
@@ -15,16 +14,6 @@ const CONFIGURATION_REPORT: u8 = 23;
 /// The octets of a row.
 const ROW: u32 = 8;
 
-// The octet that says what a store does when it is full.
-fn kind_of(kind: StoreKind) -> u8
-    ensures { result ≡ kind_octet kind }
-{
-    match kind {
-        StoreKind::Circular => 0,
-        StoreKind::Bounded => 1,
-    }
-}
-
 // Writes a row, and answers the place behind it.
 fn put_config(row: ConfigRow, out: &mut [u8], at: usize) -> usize
     requires { at + 8 ≤ length out.old }
@@ -32,7 +21,7 @@ fn put_config(row: ConfigRow, out: &mut [u8], at: usize) -> usize
     ensures written { Writes out.old out.new at (config_octets row) }
 {
     put_u16(out, at, row.store);
-    put_u8(out, at + 2, kind_of(row.kind));
+    put_u8(out, at + 2, row.kind.octet());
     put_u32(out, at + 3, row.size);
     put_u8(out, at + 7, row.channel);
     at + ROW as usize

@@ -1,8 +1,8 @@
 // Instructions as the items of a request.
 ghost use Rattle.std.specs.Prelude.{◌≡◌, ◌+◌, ◌≤◌, ◌<◌, ◌++◌, ◌∷◌, ◌^◌, [], length};
 ghost use Rattle.octet_fields.specs.Fields.{Writes, big_bytes};
-ghost use Rattle.control_defs.specs.Instructions.{IsInstruction};
-ghost use Rattle.pst_model.specs.Items.{item_of, store_kind_octet};
+ghost use Rattle.control_defs.specs.Instructions.{IsInstruction, kind_octet};
+ghost use Rattle.pst_model.specs.Items.{item_of};
 ghost use Rattle.pst_model.specs.PatternOctets.{pattern_octets};
 
 use crate::patterns::put_pattern;
@@ -78,15 +78,6 @@ fn put_copy(from: u16, to: u16, t1: u64, t2: u64, out: &mut [u8], at: usize) -> 
     at + 16
 }
 
-fn store_kind_octet(kind: StoreKind) -> u8
-    ensures { result ≡ store_kind_octet kind }
-{
-    match kind {
-        StoreKind::Circular => 0,
-        StoreKind::Bounded => 1,
-    }
-}
-
 fn put_created(
     store: u16,
     kind: StoreKind,
@@ -98,10 +89,10 @@ fn put_created(
     requires { at + 8 ≤ length out.old }
     ensures end { result ≡ at + 8 }
     ensures item { Writes out.old out.new at
-        (((big_bytes 2 store ++ store_kind_octet kind ∷ []) ++ big_bytes 4 size) ++ channel ∷ []) }
+        (((big_bytes 2 store ++ kind_octet kind ∷ []) ++ big_bytes 4 size) ++ channel ∷ []) }
 {
     put_u16(out, at, store);
-    put_u8(out, at + 2, store_kind_octet(kind));
+    put_u8(out, at + 2, kind.octet());
     put_u32(out, at + 3, size);
     put_u8(out, at + 7, channel);
     at + 8

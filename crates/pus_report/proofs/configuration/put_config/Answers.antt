@@ -4,7 +4,7 @@ use Rattle.pus_report.proofs.configuration.put_config.Goals as goal
 
 pub returns-clause-written : goal.returns-clause-written
 returns-clause-written c =
-    let kind = rw c.kind_of.ensures at c.put_u8.ensures in
+    let kind = rw c.octet.ensures at c.put_u8.ensures in
     let two = Writes-then c.put_u16.ensures kind (omega arith) in
     let three = Writes-then two c.put_u32.ensures (omega arith) in
     Writes-then three c.put_u8-2.ensures (omega arith)

@@ -9,4 +9,4 @@ returns-clause-item c =
     let all = Writes-then (Writes-then kind c.put_u32.ensures refl) c.put_u8-2.ensures refl in
     subst
     (λ (octet : ℕ). Writes c.args.out.now c.put_u8-2.new.out c.args.at (((big_bytes 2 c.args.store ++ octet ∷ []) ++ big_bytes 4 c.args.size) ++ c.args.channel ∷ []))
-    c.store_kind_octet.ensures all
+    c.octet.ensures all
