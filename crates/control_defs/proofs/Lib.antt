@@ -1,7 +1,8 @@
+mod Rows
 pub mod Covering
 pub mod Kept
 pub mod Order
 pub mod Parts
+pub mod PatternOctets
 pub mod Places
-mod Rows
 pub mod Standing

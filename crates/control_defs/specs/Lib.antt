@@ -1,3 +1,4 @@
 pub mod Instructions
 pub mod Lists
+pub mod PatternOctets
 pub mod Patterns

@@ -12,7 +12,8 @@ use Rattle.control_defs.specs.declared.patterns.Pattern.{Pattern}
 use Rattle.control_defs.specs.Patterns.{IsPattern}
 use Rattle.pst_model.specs.Items.{HasOctets, is_alone, item_of, kind_asked}
 use Rattle.pst_model.specs.Layouts.{Field, OneKind, OnePattern, RequestKind, alone, channel_field, is_wrong_in, is_wrong_in_field, list_of, size_field, store_field, store_kind_in, time_field, width_of, width_of_field}
-use Rattle.pst_model.specs.PatternOctets.{HasPatternOctets, pattern_in, pattern_octets}
+use Rattle.control_defs.specs.PatternOctets.{pattern_octets}
+use Rattle.pst_model.specs.PatternOctets.{HasPatternOctets, pattern_in}
 use Rattle.pst_model.proofs.ItemOctets.{AreOctets, Stands-number, Stands-octet, Stands-then, field-lt, octet-lt}
 use Rattle.pst_model.proofs.PatternItems.{ReadsPattern-right, Stands-pattern}
 

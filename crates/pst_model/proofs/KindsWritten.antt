@@ -11,9 +11,10 @@ use Rattle.control_defs.specs.declared.instructions.StoreKind.TheVariants.{Circu
 use Rattle.control_defs.specs.Instructions.{IsInstruction}
 use Rattle.pst_model.specs.Items.{HasOctets, is_alone, item_of, kind_asked}
 use Rattle.pst_model.specs.Layouts.{Field, Octets, OneKind, OnePattern, RequestKind, channel_field, is_wrong_in, is_wrong_in_field, kind_in, size_field, store_field, width_of, width_of_field}
-use Rattle.pst_model.specs.PatternOctets.{pattern_octets}
+use Rattle.control_defs.specs.PatternOctets.{pattern_octets}
 use Rattle.pst_model.proofs.KindsRead.{IsRight}
-use Rattle.pst_model.proofs.PatternItems.{IsRightPattern, IsRightPattern-octets, length-pattern_octets, pattern_in-octets}
+use Rattle.control_defs.proofs.PatternOctets.{length-pattern_octets}
+use Rattle.pst_model.proofs.PatternItems.{IsRightPattern, IsRightPattern-octets, pattern_in-octets}
 
 -- An item of this kind: its octets spell it, whatever follows them, and none is wrong.
 pub record IsOf (kind : RequestKind) (item : Instruction) : Type 0 where

@@ -8,7 +8,8 @@ use Rattle.octet_fields.specs.Fields.{big_bytes}
 use Rattle.control_defs.specs.declared.patterns.Pattern.{Pattern}
 use Rattle.control_defs.specs.declared.patterns.Pattern.TheVariants.{Every, App, Service, Kind}
 use Rattle.control_defs.specs.Patterns.{IsPattern}
-use Rattle.pst_model.specs.PatternOctets.{HasPatternOctets, apid_in, form_in, highest_apid, is_wrong_in_pattern, pattern_in, pattern_octets, service_in, subtype_in}
+use Rattle.control_defs.specs.PatternOctets.{pattern_octets}
+use Rattle.pst_model.specs.PatternOctets.{HasPatternOctets, apid_in, form_in, highest_apid, is_wrong_in_pattern, pattern_in, service_in, subtype_in}
 use Rattle.pst_model.proofs.ItemOctets.{AreOctets, Stands}
 
 -- none of the five octets at the front is wrong
@@ -105,12 +106,6 @@ Stands-pattern at octets reads = record {
 }
 
 -- and the other way round: a pattern is what its octets spell
-
-pub length-pattern_octets : (pattern : Pattern) → length (pattern_octets pattern) ≡ 5
-length-pattern_octets Every = refl
-length-pattern_octets (App apid) = refl
-length-pattern_octets (Service apid service) = refl
-length-pattern_octets (Kind apid service subtype) = refl
 
 pub pattern_in-octets : (pattern : Pattern) (rest : List ℕ) → IsPattern pattern → pattern_in (pattern_octets pattern ++ rest) ≡ pattern
 pattern_in-octets Every rest lawful = refl

@@ -1,16 +1,8 @@
--- Patterns as octets: one with the form, two with the APID, one with the service type and one with the
--- message subtype. A field that the form does not use is 0.
-use Rattle.std.specs.Prelude.{◌<◌, ◌==◌, ◌&&◌, ◌||◌, ℕ, Bool, not, nat_le, nat_lt, if◌then◌else◌, List, [], ◌∷◌, ◌++◌, slice_index}
-use Rattle.octet_fields.specs.Fields.{big_bytes, field}
+-- Patterns that are read from octets, and which octets are wrong.
+use Rattle.std.specs.Prelude.{◌<◌, ◌==◌, ◌&&◌, ◌||◌, ℕ, Bool, not, nat_le, nat_lt, if◌then◌else◌, List, slice_index}
+use Rattle.octet_fields.specs.Fields.{field}
 use Rattle.control_defs.specs.declared.patterns.Pattern.{Pattern}
 use Rattle.control_defs.specs.declared.patterns.Pattern.TheVariants.{Every, App, Service, Kind}
-
--- the octets of a pattern
-abbrev pub pattern_octets : Pattern → List ℕ
-pattern_octets Every = 0 ∷ big_bytes 2 0 ++ 0 ∷ 0 ∷ []
-pattern_octets (App apid) = 1 ∷ big_bytes 2 apid ++ 0 ∷ 0 ∷ []
-pattern_octets (Service apid service) = 2 ∷ big_bytes 2 apid ++ service ∷ 0 ∷ []
-pattern_octets (Kind apid service subtype) = 3 ∷ big_bytes 2 apid ++ service ∷ subtype ∷ []
 
 -- its service type and message subtype have one octet each
 abbrev pub HasPatternOctets : Pattern → Type 0

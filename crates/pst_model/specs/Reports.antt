@@ -6,7 +6,7 @@ use Rattle.octet_fields.specs.Fields.{big_bytes}
 use Rattle.control_defs.specs.Instructions.{kind_octet}
 use Rattle.control_defs.specs.declared.patterns.Pattern.{Pattern}
 use Rattle.pus_header.specs.Reports.{report_head}
-use Rattle.pst_model.specs.PatternOctets.{pattern_octets}
+use Rattle.control_defs.specs.PatternOctets.{pattern_octets}
 use Rattle.pst_model.specs.declared.rows.ConfigRow.{ConfigRow}
 use Rattle.pst_model.specs.declared.rows.StatusRow.{StatusRow}
 use Rattle.pst_model.specs.declared.rows.SummaryRow.{SummaryRow}

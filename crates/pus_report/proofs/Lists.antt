@@ -5,9 +5,6 @@ use Rattle.std.proofs.lemmas.List.{append-nil, length-take-le, take_more}
 use Rattle.std.specs.List.{flat_map}
 use Rattle.octet_fields.proofs.Splices.{Writes-then}
 use Rattle.octet_fields.specs.Fields.{Writes}
-use Rattle.control_defs.specs.declared.patterns.Pattern.{Pattern}
-use Rattle.control_defs.specs.declared.patterns.Pattern.TheVariants.{Every, App, Service, Kind}
-use Rattle.pst_model.specs.PatternOctets.{pattern_octets}
 use Rattle.pst_model.specs.Reports.{listed_octets}
 
 -- The first rows are written, behind the number of all, and the next one's place is behind them.
@@ -49,10 +46,3 @@ module _ {X : Type 0} (octets : X → List ℕ) (size : ℕ) (each : (row : X) �
             subst (λ (ys : List ℕ). Writes old new at (length rows ∷ ys)) (flat_map-more octets rows done d here)
             (Writes-then before.written row (omega (arith, long)));
       }
-
--- a pattern has five octets
-pub length-pattern_octets : (pattern : Pattern) → length (pattern_octets pattern) ≡ 5
-length-pattern_octets Every = refl
-length-pattern_octets (App apid) = refl
-length-pattern_octets (Service apid service) = refl
-length-pattern_octets (Kind apid service subtype) = refl

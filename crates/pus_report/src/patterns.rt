@@ -1,12 +1,12 @@
 // Reports of patterns: those of packets that are forwarded (ECSS-E-ST-70-41C, 6.14) or stored (6.15).
 ghost use Rattle.std.specs.Prelude.{◌≡◌, ◌+◌, ◌*◌, ◌<◌, ◌≤◌, ◌^◌, [], ◌∷◌, ◌++◌, length, drop};
-ghost use Rattle.octet_fields.specs.Fields.{Writes, big_bytes};
+ghost use Rattle.octet_fields.specs.Fields.{Writes};
 ghost use Rattle.space_packet.specs.Packet.{IsPacket};
-ghost use Rattle.pst_model.specs.PatternOctets.{pattern_octets};
+ghost use Rattle.control_defs.specs.PatternOctets.{pattern_octets};
 ghost use Rattle.pst_model.specs.Reports.{forward_report, listed_octets, report_packet, types_report};
 
 use crate::head::{HEADERS, Head, STORAGE, put_head};
-use control_defs::Pattern;
+use control_defs::{Pattern, put_pattern};
 use octet_fields::{put_u8, put_u16};
 
 /// The service of real-time forwarding control.
@@ -23,47 +23,6 @@ const PATTERN: u32 = 5;
 
 /// The octets of a store's identifier.
 const STORE: u32 = 2;
-
-// What the octets of a pattern say, 0 where its form does not use a field.
-#[derive(Clone, Copy)]
-struct Fields {
-    form: u8,
-    apid: u16,
-    service: u8,
-    subtype: u8,
-}
-
-// The fields of a pattern.
-fn fields_of(pattern: Pattern) -> Fields
-    ensures { pattern_octets pattern ≡ result.form ∷ big_bytes 2 result.apid ++ result.service ∷ result.subtype ∷ [] }
-{
-    let (form, apid, service, subtype) = match pattern {
-        Pattern::Every => (0, 0, 0, 0),
-        Pattern::App(apid) => (1, apid, 0, 0),
-        Pattern::Service(apid, service) => (2, apid, service, 0),
-        Pattern::Kind(apid, service, subtype) => (3, apid, service, subtype),
-    };
-    Fields {
-        form,
-        apid,
-        service,
-        subtype,
-    }
-}
-
-// Writes a pattern, and answers the place behind it.
-fn put_pattern(pattern: Pattern, out: &mut [u8], at: usize) -> usize
-    requires { at + 5 ≤ length out.old }
-    ensures place { result ≡ at + 5 }
-    ensures written { Writes out.old out.new at (pattern_octets pattern) }
-{
-    let fields = fields_of(pattern);
-    put_u8(out, at, fields.form);
-    put_u16(out, at + 1, fields.apid);
-    put_u8(out, at + 3, fields.service);
-    put_u8(out, at + 4, fields.subtype);
-    at + PATTERN as usize
-}
 
 // Writes patterns, behind one octet with their number.
 fn put_patterns(patterns: &[Pattern], out: &mut [u8], at: usize)

@@ -1,12 +1,10 @@
-// Patterns as the five octets of an item's field.
-ghost use Rattle.std.specs.Prelude.{◌≡◌, ◌+◌, ◌-◌, ◌≤◌, ◌++◌, ◌∷◌, [], MatchOption, None, Some, length, drop};
-ghost use Rattle.octet_fields.specs.Fields.{Writes, big_bytes};
-ghost use Rattle.control_defs.specs.Patterns.{IsPattern};
+// Patterns in the five octets of an item's field.
+ghost use Rattle.std.specs.Prelude.{◌≡◌, ◌+◌, ◌-◌, ◌≤◌, MatchOption, None, Some, length, drop};
 ghost use Rattle.pst_model.specs.Least.{first_below};
-ghost use Rattle.pst_model.specs.PatternOctets.{is_wrong_in_pattern, pattern_in, pattern_octets};
+ghost use Rattle.pst_model.specs.PatternOctets.{is_wrong_in_pattern, pattern_in};
 
 use control_defs::Pattern;
-use octet_fields::{put_u8, put_u16, u16_at};
+use octet_fields::u16_at;
 
 // The forms of a pattern.
 const EVERY: u8 = 0;
@@ -56,28 +54,4 @@ pub(crate) fn pattern_at(body: &[u8], at: usize) -> Pattern
         SERVICE => Pattern::Service(apid, service),
         _ => Pattern::Kind(apid, service, subtype),
     }
-}
-
-/// Writes a pattern in five octets at `at`, and leaves the rest.
-pub(crate) fn put_pattern(pattern: Pattern, out: &mut [u8], at: usize)
-    requires { at + 5 ≤ length out.old }
-    ensures { Writes out.old out.new at (pattern_octets pattern) }
-{
-    match pattern {
-        Pattern::Every => put_fields(EVERY, 0, 0, 0, out, at),
-        Pattern::App(apid) => put_fields(APP, apid, 0, 0, out, at),
-        Pattern::Service(apid, service) => put_fields(SERVICE, apid, service, 0, out, at),
-        Pattern::Kind(apid, service, subtype) => put_fields(KIND, apid, service, subtype, out, at),
-    }
-}
-
-// Writes the form and the fields of a pattern.
-fn put_fields(form: u8, apid: u16, service: u8, subtype: u8, out: &mut [u8], at: usize)
-    requires { at + 5 ≤ length out.old }
-    ensures { Writes out.old out.new at (form ∷ big_bytes 2 apid ++ service ∷ subtype ∷ []) }
-{
-    put_u8(out, at, form);
-    put_u16(out, at + 1, apid);
-    put_u8(out, at + 3, service);
-    put_u8(out, at + 4, subtype);
 }

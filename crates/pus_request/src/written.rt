@@ -3,10 +3,9 @@ ghost use Rattle.std.specs.Prelude.{◌≡◌, ◌+◌, ◌≤◌, ◌<◌, ◌+
 ghost use Rattle.octet_fields.specs.Fields.{Writes, big_bytes};
 ghost use Rattle.control_defs.specs.Instructions.{IsInstruction, kind_octet};
 ghost use Rattle.pst_model.specs.Items.{item_of};
-ghost use Rattle.pst_model.specs.PatternOctets.{pattern_octets};
+ghost use Rattle.control_defs.specs.PatternOctets.{pattern_octets};
 
-use crate::patterns::put_pattern;
-use control_defs::{Instruction, Pattern, StoreKind};
+use control_defs::{Instruction, Pattern, StoreKind, put_pattern};
 use octet_fields::{put_u8, put_u16, put_u32, put_u48};
 
 // Each of these writes the fields of an item at `at`, one behind another, answers the place behind them, and
@@ -19,15 +18,6 @@ fn put_store(store: u16, out: &mut [u8], at: usize) -> usize
 {
     put_u16(out, at, store);
     at + 2
-}
-
-fn put_one_pattern(pattern: Pattern, out: &mut [u8], at: usize) -> usize
-    requires { at + 5 ≤ length out.old }
-    ensures end { result ≡ at + 5 }
-    ensures item { Writes out.old out.new at (pattern_octets pattern) }
-{
-    put_pattern(pattern, out, at);
-    at + 5
 }
 
 fn put_types(store: u16, pattern: Pattern, out: &mut [u8], at: usize) -> usize
@@ -128,7 +118,7 @@ pub(crate) fn put_item(item: Instruction, out: &mut [u8], at: usize) -> usize
     match item {
         Instruction::ForwardReport | Instruction::Status | Instruction::Configuration => at,
         Instruction::ForwardAdd(pattern) | Instruction::ForwardDelete(pattern) => {
-            put_one_pattern(pattern, out, at)
+            put_pattern(pattern, out, at)
         }
         Instruction::Enable(store)
         | Instruction::Disable(store)

@@ -1,5 +1,6 @@
-use Rattle.pst_model.specs.PatternOctets.{pattern_octets}
-use Rattle.pus_report.proofs.Lists.{Listed-more, length-pattern_octets}
+use Rattle.control_defs.specs.PatternOctets.{pattern_octets}
+use Rattle.control_defs.proofs.PatternOctets.{length-pattern_octets}
+use Rattle.pus_report.proofs.Lists.{Listed-more}
 use Rattle.pus_report.proofs.patterns.put_patterns.Goals as goal
 
 pub loop-pattern-preserved : goal.loop-pattern-preserved

@@ -1,4 +1,4 @@
-use Rattle.pst_model.specs.PatternOctets.{pattern_octets}
+use Rattle.control_defs.specs.PatternOctets.{pattern_octets}
 use Rattle.pus_report.proofs.Lists.{Listed}
 use Rattle.pus_report.proofs.patterns.put_patterns.Given as goal
 

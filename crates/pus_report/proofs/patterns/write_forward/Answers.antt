@@ -1,8 +1,9 @@
 use Rattle.std.proofs.Common.{arith, refl}
 use Rattle.octet_fields.proofs.Splices.{Writes-then}
-use Rattle.pst_model.specs.PatternOctets.{pattern_octets}
+use Rattle.control_defs.specs.PatternOctets.{pattern_octets}
 use Rattle.pst_model.specs.Reports.{forward_report}
-use Rattle.pus_report.proofs.Lists.{length-listed, length-pattern_octets}
+use Rattle.control_defs.proofs.PatternOctets.{length-pattern_octets}
+use Rattle.pus_report.proofs.Lists.{length-listed}
 use Rattle.pus_report.proofs.Packets.{IsPacket-report, length-report, written-packet}
 use Rattle.pus_report.proofs.patterns.write_forward.Goals as goal
 
