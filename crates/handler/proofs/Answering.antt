@@ -65,13 +65,14 @@ counted_on xs ys first second one two = record {
       omega (arith, one.octets, two.octets, lines);
 }
 
--- the one report that a buffer holds, as an output
-pub reply-held : (number moment count reports : ℕ) (all : List Report) (out : List ℕ) (length : ℕ) → count ≡ reports → HoldsReport all (record { count = count; moment = moment }) out length
-    → ◌≡◌ {A = List Output} (record { command = number; kind = Reply; channel = 0; packet = take length out } ∷ []) (replies_from number moment reports all)
-reply-held number moment count reports all out length counted held =
+-- the one report on these instructions that a buffer holds, as an output
+pub reply-held : (number moment count : ℕ) (table : Table) (asked : Option Items) (items : Items) (out : List ℕ) (length : ℕ) → asked ≡ Some items → count ≡ table.reports
+    → HoldsReport (content_report (listed items) table) (record { count = count; moment = moment }) out length
+    → ◌≡◌ {A = List Output} (record { command = number; kind = Reply; channel = 0; packet = take length out } ∷ []) (replies_from number moment table.reports (content_asked asked table))
+reply-held number moment count table asked items out length is counted held =
     ap (λ (packet : List ℕ). record { command = number; kind = Reply; channel = 0; packet = packet } ∷ []) held.written
     ∙ ap (λ (n : ℕ). reply number moment n held.report ∷ []) counted
-    ∙ ap (replies_from number moment reports) (sym held.only)
+    ∙ ap (replies_from number moment table.reports) (sym held.only ∙ sym (ap (λ (a : Option Items). content_asked a table) is))
 
 -- a line alone, of a report
 pub counted_one : (number : ℕ) (packet : List ℕ) (octets : ℕ) (sent : Sent) → octets ≡ length (output_line 0 packet) → sent.forwarded ≡ 0 → sent.retrieved ≡ 0

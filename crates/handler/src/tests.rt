@@ -1,4 +1,5 @@
 // A full store, instructions that take effect and that fail, and the lines of each call.
+ghost use Rattle.std.specs.Prelude.{◌<◌, ◌^◌};
 
 use super::*;
 use crate::refusal::Refusal;
@@ -18,7 +19,9 @@ fn short(last: u8) -> [u8; 7] {
 }
 
 // Offers such a packet to the table.
-fn offer(alloc: Global, table: &mut MemTable, moment: u64, last: u8) -> Result<bool, AllocError> {
+fn offer(alloc: Global, table: &mut MemTable, moment: u64, last: u8) -> Result<bool, AllocError>
+    requires { moment < 2 ^ 48 }
+{
     let octets = short(last);
     let Ok(packet) = PacketView::read(&octets) else {
         return Ok(false);

@@ -1,8 +1,8 @@
 -- Patterns, forwarding and content reports on worked inputs, by computation.
 use Rattle.std.proofs.Common.{◌≡◌, ℕ, List, [], ◌∷◌, ◌++◌, refl}
 use Rattle.std.specs.Prelude.{map}
-use Rattle.control_defs.specs.declared.patterns.Pattern.TheVariants.{Every, Service}
-use Rattle.pst_model.specs.Command.{Command, Arrival, Request, Grant}
+use Rattle.control_defs.specs.declared.patterns.Pattern.TheVariants.{Service}
+use Rattle.pst_model.specs.Command.{Arrival, Request, Grant}
 use Rattle.pst_model.specs.Rules.{Output, Forwarded, Reply}
 use Rattle.pst_model.specs.Run.{run}
 use Rattle.pst_model.specs.Table.{Store, Stored, Table, after_format}

@@ -1,5 +1,5 @@
 -- The content reports, which answer requests that ask what stands (ECSS-E-ST-70-41C, 6.14.3 and 6.15.3).
-use Rattle.std.specs.Prelude.{ℕ, ◌-◌, ◌==◌, is_some, find, List, [], ◌∷◌, length, map, slice_index, Option, Some, None}
+use Rattle.std.specs.Prelude.{ℕ, ◌-◌, is_some, find, List, [], ◌∷◌, length, map, slice_index, Option, Some, None}
 use Rattle.std.specs.List.{flat_map}
 use Rattle.control_defs.specs.declared.instructions.Instruction.{Instruction}
 use Rattle.control_defs.specs.declared.instructions.Instruction.TheVariants.{ForwardReport, ReportTypes, Summary, Status, Configuration}

@@ -1,11 +1,9 @@
-use Rattle.std.proofs.Common.{◌≡◌, ℕ, List, [], ◌∷◌, take, Option, sym, ◌∙◌, ap, subst}
+use Rattle.std.proofs.Common.{ℕ, List, take, Option, sym, ◌∙◌, ap, subst}
 use Rattle.session_text.proofs.Buffers.{on_err}
 use Rattle.pus_request.specs.declared.items.Items.{Items}
-use Rattle.pus_request.specs.View.{listed}
 use Rattle.pst_model.specs.Answers.{replies_from}
-use Rattle.pst_model.specs.Contents.{content_report}
 use Rattle.pst_model.specs.Reports.{Report}
-use Rattle.pst_model.specs.Rules.{Output, Reply}
+use Rattle.pst_model.specs.Rules.{Output}
 use Rattle.handler.specs.Asked.{content_asked}
 use Rattle.handler.specs.Counting.{IsCountOf}
 use Rattle.handler.specs.Sending.{BreaksIn, SendsLines}
@@ -18,43 +16,28 @@ use Rattle.handler.proofs.replies.send_content.Goals as goal
 pub returns-in_default-write_content-clause-sends : goal.returns-in_default-write_content-clause-sends
 returns-in_default-write_content-clause-sends g c number =
     let board = g.B.Board in
-    let asked : content_asked c.args.asked (table_of c.args.table.now) ≡ content_report (listed c.in-Some.items) (table_of c.args.table.now) =
-    ap (λ (asked : Option Items). content_asked asked (table_of c.args.table.now)) c.in-Some.is in
     subst (λ (reports : List Report). SendsLines board.device board.moment board.sent board.counts c.args.board.now c.args.board.now (replies_from number c.args.moment c.args.table.now.reports reports))
-    (sym (asked ∙ c.in_default-write_content.ensures.none))
+    (sym (ap (λ (asked : Option Items). content_asked asked (table_of c.args.table.now)) c.in-Some.is ∙ c.in_default-write_content.ensures.none))
     (lines_none board.device board.moment board.sent board.counts c.args.board.now)
 
 pub returns-in_err-octets-clause-breaks : goal.returns-in_err-octets-clause-breaks
 returns-in_err-octets-clause-breaks g c =
     let board = g.B.Board in
-    let asked : content_asked c.args.asked (table_of c.args.table.now) ≡ content_report (listed c.in-Some.items) (table_of c.args.table.now) =
-    ap (λ (asked : Option Items). content_asked asked (table_of c.args.table.now)) c.in-Some.is in
-    let held : (number : ℕ) → ◌≡◌ {A = List Output} (record { command = number; kind = Reply; channel = 0; packet = take c.in-Some-write_content.length (written_in c.write_content.new.self) } ∷ [])
-    (replies_from number c.args.moment c.args.table.now.reports (content_asked c.args.asked (table_of c.args.table.now))) =
-    λ number. reply-held number c.args.moment c.count.result c.args.table.now.reports (content_report (listed c.in-Some.items) (table_of c.args.table.now)) (written_in c.write_content.new.self) c.in-Some-write_content.length c.count.ensures.reports c.in-Some-write_content.ensures.some
-    ∙ ap (replies_from number c.args.moment c.args.table.now.reports) (sym asked) in
     on_err c.from_residual.result
     (λ (number : ℕ).
-    subst (λ (outputs : List Output). BreaksIn board.device board.moment board.sent board.counts c.args.board.now c.send_report.new.board outputs) (held number) (c.in_err-octets.ensures.breaks number))
+    subst (λ (outputs : List Output). BreaksIn board.device board.moment board.sent board.counts c.args.board.now c.send_report.new.board outputs)
+    (reply-held number c.args.moment c.count.result (table_of c.args.table.now) c.args.asked c.in-Some.items (written_in c.write_content.new.self) c.in-Some-write_content.length c.in-Some.is c.count.ensures.reports c.in-Some-write_content.ensures.some)
+    (c.in_err-octets.ensures.breaks number))
 
 pub returns-clause-sends : goal.returns-clause-sends
 returns-clause-sends g c number =
     let board = g.B.Board in
-    let asked : content_asked c.args.asked (table_of c.args.table.now) ≡ content_report (listed c.in-Some.items) (table_of c.args.table.now) =
-    ap (λ (asked : Option Items). content_asked asked (table_of c.args.table.now)) c.in-Some.is in
-    let held : (number : ℕ) → ◌≡◌ {A = List Output} (record { command = number; kind = Reply; channel = 0; packet = take c.in-Some-write_content.length (written_in c.write_content.new.self) } ∷ [])
-    (replies_from number c.args.moment c.args.table.now.reports (content_asked c.args.asked (table_of c.args.table.now))) =
-    λ number. reply-held number c.args.moment c.count.result c.args.table.now.reports (content_report (listed c.in-Some.items) (table_of c.args.table.now)) (written_in c.write_content.new.self) c.in-Some-write_content.length c.count.ensures.reports c.in-Some-write_content.ensures.some
-    ∙ ap (replies_from number c.args.moment c.args.table.now.reports) (sym asked) in
-    subst (λ (outputs : List Output). SendsLines board.device board.moment board.sent board.counts c.args.board.now c.send_report.new.board outputs) (held number) (c.in_ok-octets.ensures.sends number)
+    subst (λ (outputs : List Output). SendsLines board.device board.moment board.sent board.counts c.args.board.now c.send_report.new.board outputs)
+    (reply-held number c.args.moment c.count.result (table_of c.args.table.now) c.args.asked c.in-Some.items (written_in c.write_content.new.self) c.in-Some-write_content.length c.in-Some.is c.count.ensures.reports c.in-Some-write_content.ensures.some)
+    (c.in_ok-octets.ensures.sends number)
 
 pub returns-clause-counted : goal.returns-clause-counted
 returns-clause-counted g c number =
-    let asked : content_asked c.args.asked (table_of c.args.table.now) ≡ content_report (listed c.in-Some.items) (table_of c.args.table.now) =
-    ap (λ (asked : Option Items). content_asked asked (table_of c.args.table.now)) c.in-Some.is in
-    let held : (number : ℕ) → ◌≡◌ {A = List Output} (record { command = number; kind = Reply; channel = 0; packet = take c.in-Some-write_content.length (written_in c.write_content.new.self) } ∷ [])
-    (replies_from number c.args.moment c.args.table.now.reports (content_asked c.args.asked (table_of c.args.table.now))) =
-    λ number. reply-held number c.args.moment c.count.result c.args.table.now.reports (content_report (listed c.in-Some.items) (table_of c.args.table.now)) (written_in c.write_content.new.self) c.in-Some-write_content.length c.count.ensures.reports c.in-Some-write_content.ensures.some
-    ∙ ap (replies_from number c.args.moment c.args.table.now.reports) (sym asked) in
-    subst (λ (outputs : List Output). IsCountOf outputs (record c.default-2.result { replies = 1; octets = c.from.result })) (held number)
+    subst (λ (outputs : List Output). IsCountOf outputs (record c.default-2.result { replies = 1; octets = c.from.result }))
+    (reply-held number c.args.moment c.count.result (table_of c.args.table.now) c.args.asked c.in-Some.items (written_in c.write_content.new.self) c.in-Some-write_content.length c.in-Some.is c.count.ensures.reports c.in-Some-write_content.ensures.some)
     (counted_one number (take c.in-Some-write_content.length (written_in c.write_content.new.self)) c.from.result c.default-2.result (c.from.ensures ∙ c.in_ok-octets.ensures.octets) c.default-2.ensures.0 c.default-2.ensures.1.1.0)

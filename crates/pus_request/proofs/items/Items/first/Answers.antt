@@ -1,4 +1,4 @@
-use Rattle.std.proofs.Common.{◌<◌, List, ◌∷◌, drop, length, ◌∙◌, ap, arith}
+use Rattle.std.proofs.Common.{◌∷◌, drop, ◌∙◌, ap, arith}
 use Rattle.std.proofs.Math.Seq.{drop-cons}
 use Rattle.std.proofs.lemmas.Option.{get_or_from_slice_get, slice_get_within}
 use Rattle.control_defs.specs.declared.instructions.Instruction.{Instruction}
