@@ -3,10 +3,9 @@ use Rattle.std.proofs.Common.{◌≡◌, ℕ, List, ◌++◌, None, Some, sym, �
 use Rattle.control_defs.specs.declared.instructions.Instruction.{Instruction}
 use Rattle.pus_header.specs.Commands.{acks_of, service_of, subtype_of}
 use Rattle.pst_model.specs.declared.verdicts.Verdict.{Verdict}
-use Rattle.pst_model.specs.Answers.{Carried, answer, answer_by, answer_carried, carry_out, completed, data_in, identifier_of, on_request, refusal_of, replied, verdicts_before}
+use Rattle.pst_model.specs.Answers.{answer, answer_by, answer_carried, carry_out, completed, data_in, identifier_of, on_request, refusal_of, replied, verdicts_before}
 use Rattle.pst_model.specs.Contents.{content_report}
 use Rattle.pst_model.specs.Requests.{items_in}
-use Rattle.pst_model.specs.Rules.{Step}
 use Rattle.pst_model.specs.Table.{Table}
 use Rattle.handler.specs.Asked.{reports_in}
 use Rattle.handler.specs.declared.deciding.Decision.{Decision}

@@ -9,7 +9,7 @@ use Rattle.pus_header.specs.Keys.{key_of}
 use Rattle.handler.specs.Forwarding.{forwarded}
 use Rattle.handler.specs.Table.{is_chosen, store_of, table_with}
 use Rattle.control_defs.specs.Patterns.{any_covers}
-use Rattle.pst_model.specs.Rules.{Output, Step, Taken, arrive, behind_put, free_of, is_refused, offered, put, to_drop}
+use Rattle.pst_model.specs.Rules.{Step, Taken, arrive, behind_put, free_of, is_refused, offered, put, to_drop}
 use Rattle.pst_model.specs.Table.{Store, Stored, Table, boot_store}
 
 module _ (forward types : List Pattern) (storage open_on : Bool) (packets : List Stored) (behind : ℕ) where

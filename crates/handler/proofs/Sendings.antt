@@ -1,8 +1,8 @@
 -- Lines that are sent, one run behind the other.
-use Rattle.std.proofs.Common.{◌≡◌, ◌≤◌, ℕ, List, [], ◌++◌, refl, sym, ◌∙◌, ap, subst, arith, append_assoc}
+use Rattle.std.proofs.Common.{ℕ, List, [], ◌++◌, refl, sym, ◌∙◌, ap, subst, arith, append_assoc}
 use Rattle.std.proofs.lemmas.List.{append-nil}
 use Rattle.std.specs.Prelude.{IsTrue}
-use Rattle.board.specs.Counts.{Counts, Rose, Sends}
+use Rattle.board.specs.Counts.{Counts, Sends}
 use Rattle.board.specs.Device.{Device}
 use Rattle.board.specs.Moments.{GainsFront, SendsOnly}
 use Rattle.board.proofs.Runs.{gains_more, gains_none, goes_on, links_too, prefix_trans, rose_since, started, weaker}

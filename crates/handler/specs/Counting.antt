@@ -1,5 +1,5 @@
 -- How many lines of each kind outputs have, and their octets.
-use Rattle.std.specs.Prelude.{◌≡◌, ◌≤◌, ◌+◌, ℕ, Bool, true, false, count_by, List, length}
+use Rattle.std.specs.Prelude.{◌≡◌, ◌≤◌, ◌+◌, Bool, true, false, count_by, List, length}
 use Rattle.pst_model.specs.Laws.{replies_in}
 use Rattle.pst_model.specs.Rules.{Output, OutputKind, Forwarded, Reply, Retrieved}
 use Rattle.pst_model.specs.Run.{lines_of}

@@ -1,5 +1,5 @@
 -- What a run of sends does with the lines of outputs.
-use Rattle.std.specs.Prelude.{◌≡◌, ◌≤◌, ◌++◌, ℕ, List, IsTrue}
+use Rattle.std.specs.Prelude.{◌≡◌, ◌++◌, ℕ, List, IsTrue}
 use Rattle.board.specs.Counts.{Counts, Rose, Sends}
 use Rattle.board.specs.Device.{Device}
 use Rattle.board.specs.Moments.{GainsFront, SendsOnly}

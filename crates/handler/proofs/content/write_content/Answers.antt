@@ -1,10 +1,10 @@
-use Rattle.std.proofs.Common.{◌≡◌, ℕ, List, [], ◌∷◌, ◌++◌, drop, length, take, sym, ◌∙◌, ap}
+use Rattle.std.proofs.Common.{◌≡◌, ℕ, List, [], ◌∷◌, drop, length, take, sym, ◌∙◌, ap}
 use Rattle.std.proofs.Math.Seq.{take-append_seam}
 use Rattle.control_defs.specs.declared.instructions.Instruction.{Instruction}
 use Rattle.control_defs.specs.declared.patterns.Pattern.{Pattern}
 use Rattle.pus_request.specs.View.{listed}
 use Rattle.pst_model.specs.Contents.{content_report}
-use Rattle.pst_model.specs.Reports.{Report, report_packet, types_report}
+use Rattle.pst_model.specs.Reports.{report_packet, types_report}
 use Rattle.handler.specs.Table.{store_in, table_of}
 use Rattle.handler.proofs.Answering.{types_found}
 use Rattle.handler.proofs.content.write_content.Goals as goal

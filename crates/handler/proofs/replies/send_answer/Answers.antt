@@ -1,12 +1,9 @@
 use Rattle.std.proofs.Common.{ℕ, refl, sym, ◌∙◌, ap, subst}
 use Rattle.session_text.proofs.Buffers.{on_err}
-use Rattle.pst_model.specs.Answers.{replied}
-use Rattle.pst_model.specs.Rules.{Output, Step}
-use Rattle.handler.specs.Asked.{content_asked}
+use Rattle.pst_model.specs.Rules.{Step}
 use Rattle.handler.specs.Counting.{IsCountOf, and_then}
 use Rattle.handler.specs.Sending.{BreaksIn, SendsLines}
 use Rattle.handler.specs.Table.{table_of}
-use Rattle.handler.specs.declared.sent.Sent.{Sent}
 use Rattle.handler.proofs.Answering.{answered_in_parts, counted_on}
 use Rattle.handler.proofs.Sendings.{breaks_early, breaks_on, lines_on}
 use Rattle.handler.proofs.replies.send_answer.Goals as goal
