@@ -7,6 +7,7 @@ mod long;
 mod packets;
 mod patterns;
 mod requests;
+mod shown;
 mod worked;
 
 use crate::short_source::ShortSource;
@@ -71,4 +72,14 @@ fn session(
     }
     let ending = station(alloc, &fresh(alloc)?, &mut source, &mut board);
     Ok((ending, board.sent().to_vec(alloc)?))
+}
+
+// What a session of the text sends, where it comes to its end.
+fn sent(alloc: Global, text: &str) -> Result<Option<Vec<u8>>, AllocError> {
+    let (ending, sent) = session(alloc, text.as_bytes(), 4096, None)?;
+    Ok(if ending == Ending::Done {
+        Some(sent)
+    } else {
+        None
+    })
 }

@@ -1,7 +1,7 @@
 // Ground requests, and the reports that answer them.
 ghost use Rattle.std.specs.Prelude.{◌<◌};
 
-use super::{fresh, session};
+use super::{fresh, sent};
 use crate::half_board::HalfBoard;
 use crate::short_source::ShortSource;
 use station::{Ending, station};
@@ -122,16 +122,6 @@ fn reports(
         count = count.wrapping_add(1) % 16384;
     }
     Ok(lines)
-}
-
-// What a session of the text sends, where it comes to its end.
-fn sent(alloc: Global, text: &str) -> Result<Option<Vec<u8>>, AllocError> {
-    let (ending, sent) = session(alloc, text.as_bytes(), 4096, None)?;
-    Ok(if ending == Ending::Done {
-        Some(sent)
-    } else {
-        None
-    })
 }
 
 #[test]
