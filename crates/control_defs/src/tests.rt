@@ -53,10 +53,14 @@ fn the_wider_of_two_patterns_stays(rt: HostRuntime) {
     let kind = Pattern::Kind(100, 3, 25);
     assert!(rt; pair_leaves(every, every, &[every]));
     assert!(rt; pair_leaves(every, app, &[every]));
+    assert!(rt; pair_leaves(every, service, &[every]));
+    assert!(rt; pair_leaves(every, kind, &[every]));
     assert!(rt; pair_leaves(app, every, &[every]));
+    assert!(rt; pair_leaves(service, every, &[every]));
     assert!(rt; pair_leaves(kind, every, &[every]));
     assert!(rt; pair_leaves(app, app, &[app]));
     assert!(rt; pair_leaves(app, service, &[app]));
+    assert!(rt; pair_leaves(app, kind, &[app]));
     assert!(rt; pair_leaves(service, app, &[app]));
     assert!(rt; pair_leaves(kind, app, &[app]));
     assert!(rt; pair_leaves(service, service, &[service]));
@@ -79,6 +83,13 @@ fn patterns_that_are_apart_stand_in_order(rt: HostRuntime) {
     );
     assert!(rt; pair_leaves(Pattern::Service(0, 0), app, &[app, Pattern::Service(0, 0)]));
     assert!(rt; pair_leaves(Pattern::Kind(0, 0, 0), app, &[app, Pattern::Kind(0, 0, 0)]));
+    assert!(rt;
+        pair_leaves(
+            Pattern::Kind(101, 3, 25),
+            service,
+            &[service, Pattern::Kind(101, 3, 25)]
+        )
+    );
     assert!(rt;
         pair_leaves(
             Pattern::Service(100, 255),
