@@ -5,50 +5,51 @@ use Rattle.std.proofs.lemmas.Bool.{cases_lt}
 use Rattle.std.proofs.lemmas.List.{append-nil}
 use Rattle.board.specs.Counts.{Rose}
 use Rattle.board.specs.Device.{Device}
+use Rattle.board.specs.Meaning.{BoardMeaning}
 use Rattle.board.specs.Moments.{GainsFront, IsPrefixOf, SendsNothing, SendsOnly}
 
-module _ {B : Type 0} (moment : B → ℕ) (sent : B → ℕ → List ℕ) where
+module _ {B : Type 0} (means : BoardMeaning B) where
   -- before the first call
-  pub started : (old : B) (P : List ℕ → Type 0) → P (sent old (moment old)) → SendsOnly moment sent old old P
+  pub started : (old : B) (P : List ℕ → Type 0) → P (means.sent old (means.moment old)) → SendsOnly means old old P
   started old P here = record {
     later = omega arith;
     each = λ t from to.
-        let now : moment old ≡ t = omega arith in
-        subst (λ (u : ℕ). P (sent old u)) now here;
+        let now : means.moment old ≡ t = omega arith in
+        subst (λ (u : ℕ). P (means.sent old u)) now here;
     past = λ t le. refl;
   }
 
   -- a run with P, and then one with Q, where Q gives P
   pub goes_on : (old mid new : B) (P Q : List ℕ → Type 0)
-      → SendsOnly moment sent old mid P → SendsOnly moment sent mid new Q
-      → ((octets : List ℕ) → Q octets → P octets) → SendsOnly moment sent old new P
+      → SendsOnly means old mid P → SendsOnly means mid new Q
+      → ((octets : List ℕ) → Q octets → P octets) → SendsOnly means old new P
   goes_on old mid new P Q first second gives = record {
     later = omega (arith, first.later, second.later);
     each = λ t from to. ⊎_elim
-        (λ after. gives (sent new t) (second.each t (omega arith) to))
+        (λ after. gives (means.sent new t) (second.each t (omega arith) to))
         (λ before. subst P (sym (second.past t before)) (first.each t from before))
-        (cases_lt (moment mid) t);
+        (cases_lt (means.moment mid) t);
     past = λ t le. second.past t (omega (arith, le, first.later)) ∙ first.past t le;
   }
 
   -- a run with Q, where Q gives P
-  pub weaker : (old new : B) (P Q : List ℕ → Type 0) → SendsOnly moment sent old new Q
-      → ((octets : List ℕ) → Q octets → P octets) → SendsOnly moment sent old new P
+  pub weaker : (old new : B) (P Q : List ℕ → Type 0) → SendsOnly means old new Q
+      → ((octets : List ℕ) → Q octets → P octets) → SendsOnly means old new P
   weaker old new P Q run gives = record {
     later = run.later;
-    each = λ t from to. gives (sent new t) (run.each t from to);
+    each = λ t from to. gives (means.sent new t) (run.each t from to);
     past = run.past;
   }
 
   -- a run of no calls sends nothing
-  pub sends_nothing_yet : (old : B) → SendsNothing moment sent old old
-  sends_nothing_yet old = started old (λ octets. octets ≡ sent old (moment old)) refl
+  pub sends_nothing_yet : (old : B) → SendsNothing means old old
+  sends_nothing_yet old = started old (λ octets. octets ≡ means.sent old (means.moment old)) refl
 
   -- two runs that send nothing
-  pub sends_nothing_on : (old mid new : B) → SendsNothing moment sent old mid → SendsNothing moment sent mid new → SendsNothing moment sent old new
+  pub sends_nothing_on : (old mid new : B) → SendsNothing means old mid → SendsNothing means mid new → SendsNothing means old new
   sends_nothing_on old mid new first second =
-      goes_on old mid new (λ octets. octets ≡ sent old (moment old)) (λ octets. octets ≡ sent mid (moment mid)) first second
-      (λ octets same. same ∙ first.each (moment mid) first.later (omega arith))
+      goes_on old mid new (λ octets. octets ≡ means.sent old (means.moment old)) (λ octets. octets ≡ means.sent mid (means.moment mid)) first second
+      (λ octets same. same ∙ first.each (means.moment mid) first.later (omega arith))
 
 -- a count that rose in a later call rose
 pub rose_since : (old mid new : ℕ) → old ≤ mid → Rose mid new → Rose old new

@@ -10,7 +10,7 @@ use Rattle.board.specs.Flash.{Flash, IsImage}
 use Rattle.board.specs.History.{first_flash, flash_after, flash_after_step, sent_by, sent_by_step}
 use Rattle.board.specs.Kept.{Grew, Stayed}
 use Rattle.board.specs.Laws.{content_pages}
-use Rattle.board.specs.Memory.{image_at, moment_of, sent_at}
+use Rattle.board.specs.Memory.{memory_means, moment_of, sent_at}
 use Rattle.board.specs.Moments.{LeavesOnly, SendsOnly}
 use Rattle.board.proofs.Pages.{image_of_content}
 
@@ -133,7 +133,7 @@ module _ (old new : MemBoard) (step : Step) (bytes : List ℕ) (grew : Grew step
   pub grew_leaves : (P : (ℕ → List ℕ) → Type 0)
       → ((image : ℕ → List ℕ) → IsImage old.history.blocks (flash_in old.history) image → P image)
       → ((image : ℕ → List ℕ) → IsImage old.history.blocks (flash_after_step step (flash_in old.history)) image → P image)
-      → LeavesOnly moment_of image_at old new P
+      → LeavesOnly memory_means old new P
   grew_leaves P before after = record {
     later = omega (arith, long);
     each = λ t image from to left. elim (cases_eq t (moment_of old)) [
@@ -152,7 +152,7 @@ module _ (old new : MemBoard) (step : Step) (bytes : List ℕ) (grew : Grew step
       long : moment_of new ≡ moment_of old + 1
       long = grew_moment old.history new.history step bytes grew
 
-  pub grew_sends : (P : List ℕ → Type 0) → P (sent_at old (moment_of old)) → P (sent_at old (moment_of old) ++ bytes) → SendsOnly moment_of sent_at old new P
+  pub grew_sends : (P : List ℕ → Type 0) → P (sent_at old (moment_of old)) → P (sent_at old (moment_of old) ++ bytes) → SendsOnly memory_means old new P
   grew_sends P before after = record {
     later = omega (arith, long);
     each = λ t from to. elim (cases_eq t (moment_of old)) [
@@ -171,7 +171,7 @@ module _ (old new : MemBoard) (step : Step) (bytes : List ℕ) (grew : Grew step
       long = grew_moment old.history new.history step bytes grew
 
 pub stayed_leaves : (old new : MemBoard) (P : (ℕ → List ℕ) → Type 0) → Stayed old.history new.history
-    → ((image : ℕ → List ℕ) → IsImage old.history.blocks (flash_in old.history) image → P image) → LeavesOnly moment_of image_at old new P
+    → ((image : ℕ → List ℕ) → IsImage old.history.blocks (flash_in old.history) image → P image) → LeavesOnly memory_means old new P
 stayed_leaves old new P stayed now = record {
   later = omega (arith, stayed_moment old.history new.history stayed);
   each = λ t image from to left.

@@ -6,6 +6,7 @@ pub mod History
 pub mod Kept
 pub mod Kinds
 pub mod Laws
+pub mod Meaning
 pub mod Memory
 pub mod MemorySource
 pub mod Moments

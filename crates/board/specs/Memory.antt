@@ -8,6 +8,7 @@ use Rattle.board.specs.Device.{Device}
 use Rattle.board.specs.Flash.{Flash, IsImage}
 use Rattle.board.specs.History.{first_flash, flash_after, sent_by, torn}
 use Rattle.board.specs.Kinds.{PerKind, at_kind, changed, each, one_more}
+use Rattle.board.specs.Meaning.{BoardMeaning}
 use Rattle.board.specs.Stopped.{firm_after}
 
 -- a device of so many blocks that tells all
@@ -47,6 +48,17 @@ counts_of board = record {
   reads = board.calls.reads.made;
   programs = board.calls.programs.made;
   erases = board.calls.erases.made;
+}
+
+-- all of it as one value
+abbrev pub memory_means : BoardMeaning MemBoard
+memory_means = record {
+  device = device_of;
+  flash = flash_of;
+  moment = moment_of;
+  images = image_at;
+  sent = sent_at;
+  counts = counts_of;
 }
 
 -- how many calls of each kind there were, those that failed among them

@@ -1,5 +1,6 @@
 -- What a text in memory means, and what its calls change.
 use Rattle.std.specs.Prelude.{◌≡◌, ◌+◌, ℕ, Bool, true, List, Option, None, drop, min}
+use Rattle.board.specs.Meaning.{SourceMeaning}
 use Rattle.board.specs.declared.memory_source.MemSource.{MemSource}
 
 -- it tells what is left
@@ -21,6 +22,10 @@ planned_take source = source.planned
 -- how often it has failed
 abbrev pub faults_of : MemSource → ℕ
 faults_of source = source.faults
+
+-- all of it as one value
+abbrev pub text_means : SourceMeaning MemSource
+text_means = record { tells = tells_left; left = left_of; faults = faults_of }
 
 -- A text of which nothing was taken.
 pub record IsNewSource (bytes : List ℕ) (source : MemSource) : Type 0 where

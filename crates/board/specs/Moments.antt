@@ -1,5 +1,6 @@
 -- What a stop at any moment of a run of calls leaves, and what had been sent by each moment.
 use Rattle.std.specs.Prelude.{◌≡◌, ℕ, ◌≤◌, ◌<◌, List, ◌++◌}
+use Rattle.board.specs.Meaning.{BoardMeaning}
 
 abbrev pub IsPrefixOf : List ℕ → List ℕ → Type 0
 IsPrefixOf front whole = (rest : List ℕ) × (front ++ rest ≡ whole)
@@ -11,33 +12,33 @@ pub record GainsFront (before whole octets : List ℕ) : Type 0 where
   pub gained : octets ≡ before ++ front
 
 -- At each moment from old to new, what had been sent has P.
-pub record SendsOnly {B : Type 0} (moment : B → ℕ) (sent : B → ℕ → List ℕ) (old new : B) (P : List ℕ → Type 0) : Type 0 where
-  pub later : moment old ≤ moment new
-  pub each : (t : ℕ) → moment old ≤ t → t ≤ moment new → P (sent new t)
+pub record SendsOnly {B : Type 0} (means : BoardMeaning B) (old new : B) (P : List ℕ → Type 0) : Type 0 where
+  pub later : means.moment old ≤ means.moment new
+  pub each : (t : ℕ) → means.moment old ≤ t → t ≤ means.moment new → P (means.sent new t)
   -- what was sent by a moment that was reached never changes
-  pub past : (t : ℕ) → t ≤ moment old → sent new t ≡ sent old t
+  pub past : (t : ℕ) → t ≤ means.moment old → means.sent new t ≡ means.sent old t
 
 -- a run that sends nothing
-abbrev pub SendsNothing : {B : Type 0} → (B → ℕ) → (B → ℕ → List ℕ) → B → B → Type 0
-SendsNothing moment sent old new = SendsOnly moment sent old new (λ octets. octets ≡ sent old (moment old))
+abbrev pub SendsNothing : {B : Type 0} → BoardMeaning B → B → B → Type 0
+SendsNothing means old new = SendsOnly means old new (λ octets. octets ≡ means.sent old (means.moment old))
 
 -- At each moment from old to new, each image that a stop leaves has P.
-pub record LeavesOnly {B : Type 0} (moment : B → ℕ) (images : B → ℕ → (ℕ → List ℕ) → Type 0) (old new : B) (P : (ℕ → List ℕ) → Type 0) : Type 0 where
-  pub later : moment old ≤ moment new
-  pub each : (t : ℕ) (image : ℕ → List ℕ) → moment old ≤ t → t ≤ moment new → images new t image → P image
+pub record LeavesOnly {B : Type 0} (means : BoardMeaning B) (old new : B) (P : (ℕ → List ℕ) → Type 0) : Type 0 where
+  pub later : means.moment old ≤ means.moment new
+  pub each : (t : ℕ) (image : ℕ → List ℕ) → means.moment old ≤ t → t ≤ means.moment new → means.images new t image → P image
   -- the images of a moment that was reached never change
-  pub past : (t : ℕ) (image : ℕ → List ℕ) → t ≤ moment old → images new t image → images old t image
-  pub kept : (t : ℕ) (image : ℕ → List ℕ) → t ≤ moment old → images old t image → images new t image
+  pub past : (t : ℕ) (image : ℕ → List ℕ) → t ≤ means.moment old → means.images new t image → means.images old t image
+  pub kept : (t : ℕ) (image : ℕ → List ℕ) → t ≤ means.moment old → means.images old t image → means.images new t image
 
 -- There is a moment of the run up to which each image has P, and behind which each has Q.
-pub record LeavesInTurn {B : Type 0} (moment : B → ℕ) (images : B → ℕ → (ℕ → List ℕ) → Type 0) (old new : B) (P Q : (ℕ → List ℕ) → Type 0) : Type 0 where
+pub record LeavesInTurn {B : Type 0} (means : BoardMeaning B) (old new : B) (P Q : (ℕ → List ℕ) → Type 0) : Type 0 where
   pub turn : ℕ
-  pub from : moment old ≤ turn
-  pub to : turn ≤ moment new
-  pub until : (t : ℕ) (image : ℕ → List ℕ) → moment old ≤ t → t ≤ turn → images new t image → P image
-  pub since : (t : ℕ) (image : ℕ → List ℕ) → turn < t → t ≤ moment new → images new t image → Q image
+  pub from : means.moment old ≤ turn
+  pub to : turn ≤ means.moment new
+  pub until : (t : ℕ) (image : ℕ → List ℕ) → means.moment old ≤ t → t ≤ turn → means.images new t image → P image
+  pub since : (t : ℕ) (image : ℕ → List ℕ) → turn < t → t ≤ means.moment new → means.images new t image → Q image
 
 -- From this moment on each image has P.
-pub record LeavesFrom {B : Type 0} (moment : B → ℕ) (images : B → ℕ → (ℕ → List ℕ) → Type 0) (start : ℕ) (new : B) (P : (ℕ → List ℕ) → Type 0) : Type 0 where
-  pub reached : start ≤ moment new
-  pub each : (t : ℕ) (image : ℕ → List ℕ) → start ≤ t → t ≤ moment new → images new t image → P image
+pub record LeavesFrom {B : Type 0} (means : BoardMeaning B) (start : ℕ) (new : B) (P : (ℕ → List ℕ) → Type 0) : Type 0 where
+  pub reached : start ≤ means.moment new
+  pub each : (t : ℕ) (image : ℕ → List ℕ) → start ≤ t → t ≤ means.moment new → means.images new t image → P image

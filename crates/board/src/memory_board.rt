@@ -69,19 +69,9 @@ fn tear(history: &mut History, step: Step, faults: &mut u64, starved: &mut bool)
 
 impl Board for MemBoard {
     ghost use Rattle.board.specs.Laws.{content_pages, erased_blank, images_now};
-    ghost use Rattle.board.specs.Memory.{FailsPlanned, FailsQuietly, FailsTorn, MakesCall, Succeeds, counts_of, device_of, flash_of, image_at, moment_of, sent_at};
+    ghost use Rattle.board.specs.Memory.{FailsPlanned, FailsQuietly, FailsTorn, MakesCall, Succeeds, counts_of, device_of, flash_of, image_at, memory_means, moment_of, sent_at};
 
-    ghost device = { device_of };
-
-    ghost flash = { flash_of };
-
-    ghost moment = { moment_of };
-
-    ghost images = { image_at };
-
-    ghost sent = { sent_at };
-
-    ghost counts = { counts_of };
+    ghost means = { memory_means };
 
     ghost enough_blocks = { λ board. board.history.least };
 
@@ -107,8 +97,8 @@ impl Board for MemBoard {
         ensures seen { IsTrue (device_of self.old).tells_flash
             → image_at self.old (moment_of self.old) (flash_of self.old).content → image_at self.new (moment_of self.new) (flash_of self.new).content }
         ensures leaves { IsTrue (device_of self.old).tells_flash
-            → LeavesOnly moment_of image_at self.old self.new (IsImage (device_of self.old).blocks (flash_of self.old)) }
-        ensures unsent { IsTrue (device_of self.old).tells_link → SendsNothing moment_of sent_at self.old self.new }
+            → LeavesOnly memory_means self.old self.new (IsImage (device_of self.old).blocks (flash_of self.old)) }
+        ensures unsent { IsTrue (device_of self.old).tells_link → SendsNothing memory_means self.old self.new }
         ensures same { device_of self.new ≡ device_of self.old }
         ensures work { Works 1 0 0 (counts_of self.old) (counts_of self.new) }
         ensures no_fault { OnOk result ((counts_of self.new).flash_faults ≡ (counts_of self.old).flash_faults) }
@@ -139,9 +129,9 @@ impl Board for MemBoard {
         ensures err { OnErr result (IsTrue (device_of self.old).tells_flash → Fails (only_page (256 * block + page)) (flash_of self.old) (flash_of self.new)) }
         ensures later { IsTrue (device_of self.old).tells_flash → (flash_of self.new ≡ flash_of self.old) ⊎ (moment_of self.old < moment_of self.new) }
         ensures seen { OnOk result (IsTrue (device_of self.old).tells_flash → image_at self.new (moment_of self.new) (flash_of self.new).content) }
-        ensures leaves { IsTrue (device_of self.old).tells_flash → LeavesOnly moment_of image_at self.old self.new
+        ensures leaves { IsTrue (device_of self.old).tells_flash → LeavesOnly memory_means self.old self.new
             (IsImage (device_of self.old).blocks (loosened (only_page (256 * block + page)) (flash_of self.old))) }
-        ensures unsent { IsTrue (device_of self.old).tells_link → SendsNothing moment_of sent_at self.old self.new }
+        ensures unsent { IsTrue (device_of self.old).tells_link → SendsNothing memory_means self.old self.new }
         ensures same { device_of self.new ≡ device_of self.old }
         ensures work { Works 0 1 0 (counts_of self.old) (counts_of self.new) }
         ensures no_fault { OnOk result ((counts_of self.new).flash_faults ≡ (counts_of self.old).flash_faults) }
@@ -179,9 +169,9 @@ impl Board for MemBoard {
         ensures err { OnErr result (IsTrue (device_of self.old).tells_flash → Fails (pages_of_block block) (flash_of self.old) (flash_of self.new)) }
         ensures later { IsTrue (device_of self.old).tells_flash → (flash_of self.new ≡ flash_of self.old) ⊎ (moment_of self.old < moment_of self.new) }
         ensures seen { OnOk result (IsTrue (device_of self.old).tells_flash → image_at self.new (moment_of self.new) (flash_of self.new).content) }
-        ensures leaves { IsTrue (device_of self.old).tells_flash → LeavesOnly moment_of image_at self.old self.new
+        ensures leaves { IsTrue (device_of self.old).tells_flash → LeavesOnly memory_means self.old self.new
             (IsImage (device_of self.old).blocks (loosened (pages_of_block block) (flash_of self.old))) }
-        ensures unsent { IsTrue (device_of self.old).tells_link → SendsNothing moment_of sent_at self.old self.new }
+        ensures unsent { IsTrue (device_of self.old).tells_link → SendsNothing memory_means self.old self.new }
         ensures same { device_of self.new ≡ device_of self.old }
         ensures work { Works 0 0 1 (counts_of self.old) (counts_of self.new) }
         ensures no_fault { OnOk result ((counts_of self.new).flash_faults ≡ (counts_of self.old).flash_faults) }
@@ -216,8 +206,8 @@ impl Board for MemBoard {
         ensures later { IsTrue (device_of self.old).tells_flash → (flash_of self.new ≡ flash_of self.old) ⊎ (moment_of self.old < moment_of self.new) }
         ensures seen { OnOk result (IsTrue (device_of self.old).tells_flash → image_at self.new (moment_of self.new) (flash_of self.new).content) }
         ensures leaves { IsTrue (device_of self.old).tells_flash
-            → LeavesOnly moment_of image_at self.old self.new (IsImage (device_of self.old).blocks (flash_of self.old)) }
-        ensures unsent { IsTrue (device_of self.old).tells_link → SendsNothing moment_of sent_at self.old self.new }
+            → LeavesOnly memory_means self.old self.new (IsImage (device_of self.old).blocks (flash_of self.old)) }
+        ensures unsent { IsTrue (device_of self.old).tells_link → SendsNothing memory_means self.old self.new }
         ensures same { device_of self.new ≡ device_of self.old }
         ensures work { Works 0 0 0 (counts_of self.old) (counts_of self.new) }
         ensures no_fault { OnOk result ((counts_of self.new).flash_faults ≡ (counts_of self.old).flash_faults) }
@@ -245,7 +235,7 @@ impl Board for MemBoard {
         ensures ok { OnOk result (IsTrue (device_of self.old).tells_link
             → sent_at self.new (moment_of self.new) ≡ sent_at self.old (moment_of self.old) ++ bytes.now) }
         ensures any_moment { IsTrue (device_of self.old).tells_link
-            → SendsOnly moment_of sent_at self.old self.new
+            → SendsOnly memory_means self.old self.new
             (GainsFront (sent_at self.old (moment_of self.old)) bytes.now) }
         ensures later { IsTrue (device_of self.old).tells_link
             → (sent_at self.new (moment_of self.new) ≡ sent_at self.old (moment_of self.old))
@@ -254,7 +244,7 @@ impl Board for MemBoard {
         ensures seen { IsTrue (device_of self.old).tells_flash
             → image_at self.old (moment_of self.old) (flash_of self.old).content → image_at self.new (moment_of self.new) (flash_of self.new).content }
         ensures leaves { IsTrue (device_of self.old).tells_flash
-            → LeavesOnly moment_of image_at self.old self.new (IsImage (device_of self.old).blocks (flash_of self.old)) }
+            → LeavesOnly memory_means self.old self.new (IsImage (device_of self.old).blocks (flash_of self.old)) }
         ensures same { device_of self.new ≡ device_of self.old }
         ensures work { Sends (counts_of self.old) (counts_of self.new) }
         ensures no_fault { OnOk result ((counts_of self.new).link_faults ≡ (counts_of self.old).link_faults) }

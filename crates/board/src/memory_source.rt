@@ -43,13 +43,9 @@ impl MemSource {
 }
 
 impl Source for MemSource {
-    ghost use Rattle.board.specs.MemorySource.{CountsTake, faults_of, left_of, planned_take, takes_made, tells_left};
+    ghost use Rattle.board.specs.MemorySource.{CountsTake, faults_of, left_of, planned_take, takes_made, tells_left, text_means};
 
-    ghost tells = { tells_left };
-
-    ghost left = { left_of };
-
-    ghost faults = { faults_of };
+    ghost means = { text_means };
 
     fn take(&mut self, into: &mut [u8]) -> Result<usize, Failed>
         requires { 0 < length into.old }

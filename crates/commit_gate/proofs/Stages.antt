@@ -1,37 +1,45 @@
 -- The moments of a commit, call by call: payload, barrier, gate, barrier.
-use Rattle.std.proofs.Common.{◌≡◌, inl, ℕ, ◌+◌, ◌*◌, ◌<◌, ◌≤◌, Bool, true, List, length, subst}
+use Rattle.std.proofs.Common.{◌≡◌, inl, ℕ, ◌+◌, ◌*◌, ◌<◌, ◌≤◌, Bool, true, List, length, ◌∙◌, ap, subst}
 use Rattle.std.specs.Prelude.{IsTrue}
 use Rattle.board.specs.Device.{Device}
 use Rattle.board.specs.Flash.{Flash, IsClean, IsImage, blank, firm, loosened, only_page, pages_from, written}
+use Rattle.board.specs.Meaning.{BoardMeaning}
 use Rattle.board.specs.Moments.{LeavesInTurn, LeavesOnly}
 use Rattle.board.proofs.Pages.{image_of_written}
 use Rattle.board.proofs.Stops.{goes_on, in_turn, not_yet, weaker}
 use Rattle.board.proofs.Works.{tells_too}
 use Rattle.commit_gate.specs.Entries.{open_page, payload_pages}
-use Rattle.commit_gate.specs.Commits.{HasAllButGate, IsBefore, IsBeforeOrAfter, Stands, payload_at, with_payload}
+use Rattle.commit_gate.specs.Commits.{HasAllButGate, IsBefore, IsBeforeOrAfter, Stands, payload_at, with_entry, with_payload}
 use Rattle.commit_gate.proofs.Images.{gate_before_or_after, payload_before}
 
-module _ {B : Type 0} (device : B → Device) (flash : B → Flash) (moment : B → ℕ) (images : B → ℕ → (ℕ → List ℕ) → Type 0) (old : B)
-    (told : IsTrue (device old).tells_flash) (base at : ℕ) (entry : List ℕ)
-    (shortest : 1 ≤ length entry) (longest : length entry ≤ 5116)
-    (room : at + 1 + payload_pages (length entry) ≤ 512)
-    (fits : base + 512 ≤ 256 * (device old).blocks)
-    (clean : (q : ℕ) → at ≤ q → q < 512 → IsClean (flash old) (base + q))
-    (erased_blank : (p : ℕ) → (flash old).erased p ≡ true → (flash old).content p ≡ blank)
-    (start : ℕ) (entries : List (List ℕ)) (stands : Stands (flash old) base start entries at) where
-  -- what stops leave
+-- What a commit has at first: an entry that fits, and clean pages for it, on a flash that is told.
+pub record Ready {B : Type 0} (means : BoardMeaning B) (old : B) (base at : ℕ) (entry : List ℕ) : Type 0 where
+  pub told : IsTrue (means.device old).tells_flash
+  pub shortest : 1 ≤ length entry
+  pub longest : length entry ≤ 5116
+  pub room : at + 1 + payload_pages (length entry) ≤ 512
+  pub fits : base + 512 ≤ 256 * (means.device old).blocks
+  pub clean : (q : ℕ) → at ≤ q → q < 512 → IsClean (means.flash old) (base + q)
+  pub erased_blank : (p : ℕ) → (means.flash old).erased p ≡ true → (means.flash old).content p ≡ blank
+
+module _ {B : Type 0} (means : BoardMeaning B) (old : B) (base at : ℕ) (entry : List ℕ) (start : ℕ) (entries : List (List ℕ)) where
   abbrev Before : (ℕ → List ℕ) → Type 0
-  Before = IsBefore (device old).blocks (flash old) base start entries at entry
+  Before = IsBefore (means.device old).blocks (means.flash old) base start entries at entry
 
   abbrev AllButGate : (ℕ → List ℕ) → Type 0
-  AllButGate = HasAllButGate (device old).blocks (flash old) base at entry
+  AllButGate = HasAllButGate (means.device old).blocks (means.flash old) base at entry
 
   abbrev Either : (ℕ → List ℕ) → Type 0
-  Either = IsBeforeOrAfter (device old).blocks (flash old) base start entries at entry
+  Either = IsBeforeOrAfter (means.device old).blocks (means.flash old) base start entries at entry
 
-  -- the images of a call on this flash
-  abbrev Calls : B → B → Type 0
-  Calls a b = IsTrue (device a).tells_flash → LeavesOnly moment images a b (IsImage (device a).blocks (flash a))
+  -- What stops leave of a commit that ended on this board.
+  pub record Leaves (new : B) : Type 0 where
+    pub any_moment : LeavesOnly means old new Either
+    pub turns : LeavesInTurn means old new Before AllButGate
+
+module _ {B : Type 0} {means : BoardMeaning B} {old : B} {base at : ℕ} {entry : List ℕ} (ready : Ready means old base at entry) where
+  abbrev blocks : ℕ
+  blocks = (means.device old).blocks
 
   abbrev payload : ℕ → Bool
   payload = pages_from (base + (at + 1)) (payload_pages (length entry))
@@ -39,45 +47,104 @@ module _ {B : Type 0} (device : B → Device) (flash : B → Flash) (moment : B 
   abbrev gate : ℕ → Bool
   gate = only_page (base + at)
 
-  here : (a : B) → device a ≡ device old → (mid : Flash) → flash a ≡ mid → (image : ℕ → List ℕ) → IsImage (device a).blocks (flash a) image → IsImage (device old).blocks mid image
-  here a same mid is image left = subst (λ (f : Flash). IsImage (device old).blocks f image) is (subst (λ (d : Device). IsImage d.blocks (flash a) image) same left)
+  -- the flash at first, with the payload, with it firm, and with the gate
+  abbrev was : Flash
+  was = means.flash old
 
-  before : (image : ℕ → List ℕ) → IsImage (device old).blocks (loosened payload (flash old)) image → Before image
-  before = payload_before (device old).blocks (flash old) base at entry shortest longest room fits clean erased_blank start entries stands
+  abbrev filled : Flash
+  filled = with_payload base at entry was
 
-  either : (image : ℕ → List ℕ) → AllButGate image → Either image
-  either = gate_before_or_after (device old).blocks (flash old) base at entry shortest longest room fits clean erased_blank start entries stands
+  abbrev opened : Flash
+  opened = written gate (λ _. open_page) (firm filled)
 
-  -- up to the end of the payload, and of its barrier
-  pub payload_leaves : (a : B) → LeavesOnly moment images old a (IsImage (device old).blocks (loosened payload (flash old))) → LeavesOnly moment images old a Before
-  payload_leaves a run = weaker moment images old a Before (IsImage (device old).blocks (loosened payload (flash old))) run before
+  -- what stops leave of a call that may tear these pages, and of a barrier
+  abbrev Tears : (ℕ → Bool) → B → B → Type 0
+  Tears these a b = IsTrue (means.device a).tells_flash → LeavesOnly means a b (IsImage (means.device a).blocks (loosened these (means.flash a)))
 
-  pub firm_leaves : (a b : B) → LeavesOnly moment images old a (IsImage (device old).blocks (loosened payload (flash old))) → device a ≡ device old → flash a ≡ with_payload base at entry (flash old)
-      → Calls a b → LeavesOnly moment images old b Before
-  firm_leaves a b run same is call = goes_on moment images old a b Before (IsImage (device a).blocks (flash a)) (payload_leaves a run) (call (tells_too same told))
-      (λ image left. before image (image_of_written (device old).blocks payload (payload_at (base + (at + 1)) entry) (flash old) image (here a same (with_payload base at entry (flash old)) is image left)))
+  abbrev Bars : B → B → Type 0
+  Bars a b = IsTrue (means.device a).tells_flash → LeavesOnly means a b (IsImage (means.device a).blocks (means.flash a))
 
-  -- the gate, and its barrier
-  pub gate_leaves : (b c : B) → device b ≡ device old → flash b ≡ firm (with_payload base at entry (flash old))
-      → (IsTrue (device b).tells_flash → LeavesOnly moment images b c (IsImage (device b).blocks (loosened gate (flash b)))) → LeavesOnly moment images b c AllButGate
-  gate_leaves b c same is call = weaker moment images b c AllButGate (IsImage (device b).blocks (loosened gate (flash b))) (call (tells_too same told))
-      (λ image left. subst (λ (f : Flash). IsImage (device old).blocks (loosened gate f) image) is (subst (λ (d : Device). IsImage d.blocks (loosened gate (flash b)) image) same left))
+  -- what a call makes of the flash
+  abbrev Makes : (Flash → Flash) → B → B → Type 0
+  Makes change a b = IsTrue (means.device a).tells_flash → means.flash b ≡ change (means.flash a)
 
-  pub last_leaves : (b c d : B) → LeavesOnly moment images b c AllButGate → device c ≡ device old
-      → flash c ≡ written gate (λ _. open_page) (firm (with_payload base at entry (flash old))) → Calls c d → LeavesOnly moment images b d AllButGate
-  last_leaves b c d run same is call = goes_on moment images b c d AllButGate (IsImage (device c).blocks (flash c)) run (call (tells_too same told))
-      (λ image left. image_of_written (device old).blocks gate (λ _. open_page) (firm (with_payload base at entry (flash old))) image
-      (here c same (written gate (λ _. open_page) (firm (with_payload base at entry (flash old)))) is image left))
+  makes : (a b : B) (mid : Flash) (change : Flash → Flash) → means.device a ≡ means.device old → means.flash a ≡ mid
+      → Makes change a b → means.flash b ≡ change mid
+  makes a b mid change same is call = call (tells_too same ready.told) ∙ ap change is
 
-  -- the whole, where the gate was not reached, and where it was
-  pub before_moments : (b : B) → LeavesOnly moment images old b Before → LeavesOnly moment images old b Either
-  before_moments b run = weaker moment images old b Either Before run (λ image is. inl is)
+  here : (a : B) → means.device a ≡ means.device old → (mid : Flash) → means.flash a ≡ mid
+      → (image : ℕ → List ℕ) → IsImage (means.device a).blocks (means.flash a) image → IsImage blocks mid image
+  here a same mid is image left =
+      subst (λ (f : Flash). IsImage blocks f image) is (subst (λ (d : Device). IsImage d.blocks (means.flash a) image) same left)
 
-  pub all_moments : (b d : B) → LeavesOnly moment images old b Before → LeavesOnly moment images b d AllButGate → LeavesOnly moment images old d Either
-  all_moments b d first second = goes_on moment images old b d Either AllButGate (before_moments b first) second either
+  -- the flash in the end
+  pub entry_is : (a b d e : B) → means.device a ≡ means.device old → means.flash a ≡ filled → means.device b ≡ means.device a → Makes firm a b
+      → means.device d ≡ means.device b → Makes (written gate (λ _. open_page)) b d → Makes firm d e → means.flash e ≡ with_entry base at entry was
+  entry_is a b d e same_a is_a same_b firms same_d opens firms_too =
+      makes d e opened firm (same_d ∙ same_b ∙ same_a)
+      (makes b d (firm filled) (written gate (λ _. open_page)) (same_b ∙ same_a) (makes a b filled firm same_a is_a firms) opens) firms_too
 
-  pub before_turn : (b : B) → LeavesOnly moment images old b Before → LeavesInTurn moment images old b Before AllButGate
-  before_turn b run = not_yet moment images old b Before AllButGate run
+  module _ {start : ℕ} {entries : List (List ℕ)} (stands : Stands was base start entries at) where
+    abbrev IsLeft : B → Type 0
+    IsLeft = Leaves means old base at entry start entries
 
-  pub both_turns : (b d : B) → LeavesOnly moment images old b Before → LeavesOnly moment images b d AllButGate → LeavesInTurn moment images old d Before AllButGate
-  both_turns b d first second = in_turn moment images old b d Before AllButGate first second
+    abbrev EarlyOnly : B → Type 0
+    EarlyOnly b = LeavesOnly means old b (Before means old base at entry start entries)
+
+    abbrev LateOnly : B → B → Type 0
+    LateOnly b d = LeavesOnly means b d (AllButGate means old base at entry start entries)
+
+    before : (image : ℕ → List ℕ) → IsImage blocks (loosened payload was) image → Before means old base at entry start entries image
+    before = payload_before blocks was base at entry ready.shortest ready.longest ready.room ready.fits ready.clean ready.erased_blank start entries stands
+
+    either : (image : ℕ → List ℕ) → AllButGate means old base at entry start entries image → Either means old base at entry start entries image
+    either = gate_before_or_after blocks was base at entry ready.shortest ready.longest ready.room ready.fits ready.clean ready.erased_blank start entries stands
+
+    -- the whole, where the gate was not reached, and where it was
+    early : (b : B) → EarlyOnly b → IsLeft b
+    early b run = record { any_moment = weaker means old b _ _ run (λ image is. inl is); turns = not_yet means old b _ _ run }
+
+    late : (b d : B) → EarlyOnly b → LateOnly b d → IsLeft d
+    late b d first second = record {
+      any_moment = goes_on means old b d _ _ (early b first).any_moment second either;
+      turns = in_turn means old b d _ _ first second;
+    }
+
+    -- a commit that ended in its payload
+    module _ (a : B) (tears : LeavesOnly means old a (IsImage blocks (loosened payload was))) where
+      payload_leaves : EarlyOnly a
+      payload_leaves = weaker means old a _ _ tears before
+
+      pub ends_in_payload : IsLeft a
+      ends_in_payload = early a payload_leaves
+
+      -- in the barrier behind it
+      module _ (b : B) (same_a : means.device a ≡ means.device old) (is_a : means.flash a ≡ filled) (bars : Bars a b) where
+        firm_leaves : EarlyOnly b
+        firm_leaves = goes_on means old a b _ _ payload_leaves (bars (tells_too same_a ready.told))
+            (λ image left. before image (image_of_written blocks payload (payload_at (base + (at + 1)) entry) was image (here a same_a filled is_a image left)))
+
+        pub ends_in_barrier : IsLeft b
+        ends_in_barrier = early b firm_leaves
+
+        -- in its gate
+        module _ (d : B) (same_b : means.device b ≡ means.device a) (firms : Makes firm a b) (tears_gate : Tears gate b d) where
+          gate_leaves : LateOnly b d
+          gate_leaves = weaker means b d _ _ (tears_gate (tells_too (same_b ∙ same_a) ready.told))
+              (λ image left. subst (λ (f : Flash). IsImage blocks (loosened gate f) image) (makes a b filled firm same_a is_a firms)
+              (subst (λ (device : Device). IsImage device.blocks (loosened gate (means.flash b)) image) (same_b ∙ same_a) left))
+
+          pub ends_in_gate : IsLeft d
+          ends_in_gate = late b d firm_leaves gate_leaves
+
+          -- in the last barrier, or behind it
+          module _ (e : B) (same_d : means.device d ≡ means.device b) (opens : Makes (written gate (λ _. open_page)) b d) (bars_too : Bars d e) where
+            is_d : means.flash d ≡ opened
+            is_d = makes b d (firm filled) (written gate (λ _. open_page)) (same_b ∙ same_a) (makes a b filled firm same_a is_a firms) opens
+
+            last_leaves : LateOnly b e
+            last_leaves = goes_on means b d e _ _ gate_leaves (bars_too (tells_too (same_d ∙ same_b ∙ same_a) ready.told))
+                (λ image left. image_of_written blocks gate (λ _. open_page) (firm filled) image (here d (same_d ∙ same_b ∙ same_a) opened is_d image left))
+
+            pub ends_in_last_barrier : IsLeft e
+            ends_in_last_barrier = late b e firm_leaves last_leaves

@@ -23,10 +23,10 @@ impl Area {
         requires place { at < 512 }
         requires length { length into.old ≡ 256 }
 
-        ensures read { OnOk result (IsTrue (B.device board.old).tells_flash → into.new ≡ area_of (256 * self.first) (B.flash board.old).content at) }
-        ensures reads { ReadsOnly B.device B.flash B.moment B.images B.sent B.counts 1 board.old board.new }
-        ensures no_fault { OnOk result ((B.counts board.new).flash_faults ≡ (B.counts board.old).flash_faults) }
-        ensures cause { OnErr result (Rose (B.counts board.old).flash_faults (B.counts board.new).flash_faults) }
+        ensures read { OnOk result (IsTrue (B.means.device board.old).tells_flash → into.new ≡ area_of (256 * self.first) (B.means.flash board.old).content at) }
+        ensures reads { ReadsOnly B.means 1 board.old board.new }
+        ensures no_fault { OnOk result ((B.means.counts board.new).flash_faults ≡ (B.means.counts board.old).flash_faults) }
+        ensures cause { OnErr result (Rose (B.means.counts board.old).flash_faults (B.means.counts board.new).flash_faults) }
     {
         board.read_page(self.first + at / 256, at % 256, into)
     }
@@ -36,17 +36,17 @@ impl Area {
         requires first { self.first ≤ 5 }
         requires place { at < 512 }
         requires length { length from.now ≡ 256 }
-        requires clean { IsTrue (B.device board.old).tells_flash → IsClean (B.flash board.old) (256 * self.first + at) }
+        requires clean { IsTrue (B.means.device board.old).tells_flash → IsClean (B.means.flash board.old) (256 * self.first + at) }
 
-        ensures ok { OnOk result (IsTrue (B.device board.old).tells_flash → B.flash board.new ≡ written (only_page (256 * self.first + at)) (λ _. from.now) (B.flash board.old)) }
-        ensures others { IsTrue (B.device board.old).tells_flash → SameElsewhere (only_page (256 * self.first + at)) (B.flash board.old) (B.flash board.new) }
-        ensures leaves { IsTrue (B.device board.old).tells_flash → LeavesOnly B.moment B.images board.old board.new
-            (IsImage (B.device board.old).blocks (loosened (only_page (256 * self.first + at)) (B.flash board.old))) }
-        ensures unsent { IsTrue (B.device board.old).tells_link → SendsNothing B.moment B.sent board.old board.new }
-        ensures same { B.device board.new ≡ B.device board.old }
-        ensures work { Works 0 1 0 (B.counts board.old) (B.counts board.new) }
-        ensures no_fault { OnOk result ((B.counts board.new).flash_faults ≡ (B.counts board.old).flash_faults) }
-        ensures cause { OnErr result (Rose (B.counts board.old).flash_faults (B.counts board.new).flash_faults) }
+        ensures ok { OnOk result (IsTrue (B.means.device board.old).tells_flash → B.means.flash board.new ≡ written (only_page (256 * self.first + at)) (λ _. from.now) (B.means.flash board.old)) }
+        ensures others { IsTrue (B.means.device board.old).tells_flash → SameElsewhere (only_page (256 * self.first + at)) (B.means.flash board.old) (B.means.flash board.new) }
+        ensures leaves { IsTrue (B.means.device board.old).tells_flash → LeavesOnly B.means board.old board.new
+            (IsImage (B.means.device board.old).blocks (loosened (only_page (256 * self.first + at)) (B.means.flash board.old))) }
+        ensures unsent { IsTrue (B.means.device board.old).tells_link → SendsNothing B.means board.old board.new }
+        ensures same { B.means.device board.new ≡ B.means.device board.old }
+        ensures work { Works 0 1 0 (B.means.counts board.old) (B.means.counts board.new) }
+        ensures no_fault { OnOk result ((B.means.counts board.new).flash_faults ≡ (B.means.counts board.old).flash_faults) }
+        ensures cause { OnErr result (Rose (B.means.counts board.old).flash_faults (B.means.counts board.new).flash_faults) }
     {
         board.program(self.first + at / 256, at % 256, from)
     }

@@ -30,35 +30,35 @@ pub fn append<B: Board>(board: &mut B, area: Area, at: u32, entry: &[u8]) -> Res
     requires shortest { 1 ≤ length entry.now }
     requires longest { length entry.now ≤ 5116 }
     requires room { at + 1 + payload_pages (length entry.now) ≤ 512 }
-    requires clean { IsTrue (B.device board.old).tells_flash → IsCleanFrom (B.flash board.old) (256 * area.first) at }
+    requires clean { IsTrue (B.means.device board.old).tells_flash → IsCleanFrom (B.means.flash board.old) (256 * area.first) at }
 
     ensures next { IfOk result (λ next. next ≡ at + 1 + payload_pages (length entry.now)) }
-    ensures flash { OnOk result (IsTrue (B.device board.old).tells_flash → B.flash board.new ≡ with_entry (256 * area.first) at entry.now (B.flash board.old)) }
-    ensures seen { OnOk result (IsTrue (B.device board.old).tells_flash → B.images board.new (B.moment board.new) (B.flash board.new).content) }
+    ensures flash { OnOk result (IsTrue (B.means.device board.old).tells_flash → B.means.flash board.new ≡ with_entry (256 * area.first) at entry.now (B.means.flash board.old)) }
+    ensures seen { OnOk result (IsTrue (B.means.device board.old).tells_flash → B.means.images board.new (B.means.moment board.new) (B.means.flash board.new).content) }
 
     // From then on a stop leaves the entry, and what is behind it is clean.
-    ensures stands { OnOk result (IsTrue (B.device board.old).tells_flash → (start : ℕ) (entries : List (List ℕ)) → Stands (B.flash board.old) (256 * area.first) start entries at
-        → Stands (B.flash board.new) (256 * area.first) start (entries ++ entry.now ∷ []) (at + 1 + payload_pages (length entry.now))) }
-    ensures clean { OnOk result (IsTrue (B.device board.old).tells_flash → IsCleanFrom (B.flash board.new) (256 * area.first) (at + 1 + payload_pages (length entry.now))) }
+    ensures stands { OnOk result (IsTrue (B.means.device board.old).tells_flash → (start : ℕ) (entries : List (List ℕ)) → Stands (B.means.flash board.old) (256 * area.first) start entries at
+        → Stands (B.means.flash board.new) (256 * area.first) start (entries ++ entry.now ∷ []) (at + 1 + payload_pages (length entry.now))) }
+    ensures clean { OnOk result (IsTrue (B.means.device board.old).tells_flash → IsCleanFrom (B.means.flash board.new) (256 * area.first) (at + 1 + payload_pages (length entry.now))) }
 
     // A stop at any moment of the call leaves the entries from before it, or those and this one.
-    ensures any_moment { IsTrue (B.device board.old).tells_flash → (start : ℕ) (entries : List (List ℕ)) → Stands (B.flash board.old) (256 * area.first) start entries at
-        → LeavesOnly B.moment B.images board.old board.new (IsBeforeOrAfter (B.device board.old).blocks (B.flash board.old) (256 * area.first) start entries at entry.now) }
+    ensures any_moment { IsTrue (B.means.device board.old).tells_flash → (start : ℕ) (entries : List (List ℕ)) → Stands (B.means.flash board.old) (256 * area.first) start entries at
+        → LeavesOnly B.means board.old board.new (IsBeforeOrAfter (B.means.device board.old).blocks (B.means.flash board.old) (256 * area.first) start entries at entry.now) }
 
     // Up to some moment no image has the entry. Behind it each has all of the entry but its gate.
-    ensures in_turn { IsTrue (B.device board.old).tells_flash → (start : ℕ) (entries : List (List ℕ)) → Stands (B.flash board.old) (256 * area.first) start entries at
-        → LeavesInTurn B.moment B.images board.old board.new
-        (IsBefore (B.device board.old).blocks (B.flash board.old) (256 * area.first) start entries at entry.now)
-        (HasAllButGate (B.device board.old).blocks (B.flash board.old) (256 * area.first) at entry.now) }
+    ensures in_turn { IsTrue (B.means.device board.old).tells_flash → (start : ℕ) (entries : List (List ℕ)) → Stands (B.means.flash board.old) (256 * area.first) start entries at
+        → LeavesInTurn B.means board.old board.new
+        (IsBefore (B.means.device board.old).blocks (B.means.flash board.old) (256 * area.first) start entries at entry.now)
+        (HasAllButGate (B.means.device board.old).blocks (B.means.flash board.old) (256 * area.first) at entry.now) }
 
     // No other page changes, also where a call failed.
-    ensures others { IsTrue (B.device board.old).tells_flash → SameElsewhere (entry_pages (256 * area.first) at entry.now) (B.flash board.old) (B.flash board.new) }
+    ensures others { IsTrue (B.means.device board.old).tells_flash → SameElsewhere (entry_pages (256 * area.first) at entry.now) (B.means.flash board.old) (B.means.flash board.new) }
 
-    ensures unsent { IsTrue (B.device board.old).tells_link → SendsNothing B.moment B.sent board.old board.new }
-    ensures same { B.device board.new ≡ B.device board.old }
-    ensures work { Works 0 (1 + payload_pages (length entry.now)) 0 (B.counts board.old) (B.counts board.new) }
-    ensures no_fault { OnOk result ((B.counts board.new).flash_faults ≡ (B.counts board.old).flash_faults) }
-    ensures cause { OnErr result (Rose (B.counts board.old).flash_faults (B.counts board.new).flash_faults) }
+    ensures unsent { IsTrue (B.means.device board.old).tells_link → SendsNothing B.means board.old board.new }
+    ensures same { B.means.device board.new ≡ B.means.device board.old }
+    ensures work { Works 0 (1 + payload_pages (length entry.now)) 0 (B.means.counts board.old) (B.means.counts board.new) }
+    ensures no_fault { OnOk result ((B.means.counts board.new).flash_faults ≡ (B.means.counts board.old).flash_faults) }
+    ensures cause { OnErr result (Rose (B.means.counts board.old).flash_faults (B.means.counts board.new).flash_faults) }
 {
     write_text(board, area, at + 1, entry)?;
     board.barrier()?;

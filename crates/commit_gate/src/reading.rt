@@ -34,10 +34,10 @@ fn read_gate<B: Board>(board: &mut B, area: Area, at: u32) -> Result<bool, Faile
     requires block { area.first ≤ 5 }
     requires place { at < 512 }
 
-    ensures shown { IfOk result (λ shown. IsTrue (B.device board.old).tells_flash → shown ≡ is_open (area_of (256 * area.first) (B.flash board.old).content at)) }
-    ensures reads { ReadsOnly B.device B.flash B.moment B.images B.sent B.counts 1 board.old board.new }
-    ensures no_fault { OnOk result ((B.counts board.new).flash_faults ≡ (B.counts board.old).flash_faults) }
-    ensures cause { OnErr result (Rose (B.counts board.old).flash_faults (B.counts board.new).flash_faults) }
+    ensures shown { IfOk result (λ shown. IsTrue (B.means.device board.old).tells_flash → shown ≡ is_open (area_of (256 * area.first) (B.means.flash board.old).content at)) }
+    ensures reads { ReadsOnly B.means 1 board.old board.new }
+    ensures no_fault { OnOk result ((B.means.counts board.new).flash_faults ≡ (B.means.counts board.old).flash_faults) }
+    ensures cause { OnErr result (Rose (B.means.counts board.old).flash_faults (B.means.counts board.new).flash_faults) }
 {
     let mut page = [0; 256];
     area.read_page(board, at, &mut page)?;
@@ -56,11 +56,11 @@ pub fn next_entry<'a, B: Board>(
     requires at { at ≤ 512 }
     requires room { 5120 ≤ length buf.old }
 
-    ensures next { IfOk result (λ next. IsTrue (B.device board.old).tells_flash → entry_at (area_of (256 * area.first) (B.flash board.old).content) at ≡ shown next) }
+    ensures next { IfOk result (λ next. IsTrue (B.means.device board.old).tells_flash → entry_at (area_of (256 * area.first) (B.means.flash board.old).content) at ≡ shown next) }
     ensures range { IfOk result (λ next. IsInArea at next) }
-    ensures reads { ReadsOnly B.device B.flash B.moment B.images B.sent B.counts 21 board.old board.new }
-    ensures no_fault { OnOk result ((B.counts board.new).flash_faults ≡ (B.counts board.old).flash_faults) }
-    ensures cause { OnErr result (Rose (B.counts board.old).flash_faults (B.counts board.new).flash_faults) }
+    ensures reads { ReadsOnly B.means 21 board.old board.new }
+    ensures no_fault { OnOk result ((B.means.counts board.new).flash_faults ≡ (B.means.counts board.old).flash_faults) }
+    ensures cause { OnErr result (Rose (B.means.counts board.old).flash_faults (B.means.counts board.new).flash_faults) }
 {
     if at > 510 {
         return Ok(Next::End);

@@ -23,17 +23,17 @@ pub fn write_text<B: Board>(
     requires block { area.first ≤ 5 }
     requires length { length text.now ≤ 20476 }
     requires room { first + payload_pages (length text.now) ≤ 512 }
-    requires clean { IsTrue (B.device board.old).tells_flash → IsCleanFrom (B.flash board.old) (256 * area.first) first }
+    requires clean { IsTrue (B.means.device board.old).tells_flash → IsCleanFrom (B.means.flash board.old) (256 * area.first) first }
 
-    ensures ok { OnOk result (IsTrue (B.device board.old).tells_flash → B.flash board.new ≡ with_text (256 * area.first) first text.now (B.flash board.old)) }
-    ensures others { IsTrue (B.device board.old).tells_flash → SameElsewhere (text_pages (256 * area.first) first text.now) (B.flash board.old) (B.flash board.new) }
-    ensures leaves { IsTrue (B.device board.old).tells_flash → LeavesOnly B.moment B.images board.old board.new
-        (IsImage (B.device board.old).blocks (loosened (text_pages (256 * area.first) first text.now) (B.flash board.old))) }
-    ensures unsent { IsTrue (B.device board.old).tells_link → SendsNothing B.moment B.sent board.old board.new }
-    ensures same { B.device board.new ≡ B.device board.old }
-    ensures work { Works 0 (payload_pages (length text.now)) 0 (B.counts board.old) (B.counts board.new) }
-    ensures no_fault { OnOk result ((B.counts board.new).flash_faults ≡ (B.counts board.old).flash_faults) }
-    ensures cause { OnErr result (Rose (B.counts board.old).flash_faults (B.counts board.new).flash_faults) }
+    ensures ok { OnOk result (IsTrue (B.means.device board.old).tells_flash → B.means.flash board.new ≡ with_text (256 * area.first) first text.now (B.means.flash board.old)) }
+    ensures others { IsTrue (B.means.device board.old).tells_flash → SameElsewhere (text_pages (256 * area.first) first text.now) (B.means.flash board.old) (B.means.flash board.new) }
+    ensures leaves { IsTrue (B.means.device board.old).tells_flash → LeavesOnly B.means board.old board.new
+        (IsImage (B.means.device board.old).blocks (loosened (text_pages (256 * area.first) first text.now) (B.means.flash board.old))) }
+    ensures unsent { IsTrue (B.means.device board.old).tells_link → SendsNothing B.means board.old board.new }
+    ensures same { B.means.device board.new ≡ B.means.device board.old }
+    ensures work { Works 0 (payload_pages (length text.now)) 0 (B.means.counts board.old) (B.means.counts board.new) }
+    ensures no_fault { OnOk result ((B.means.counts board.new).flash_faults ≡ (B.means.counts board.old).flash_faults) }
+    ensures cause { OnErr result (Rose (B.means.counts board.old).flash_faults (B.means.counts board.new).flash_faults) }
 {
     let mut page = [0; 256];
     for index in 0..payload_pages(text.len() as u32) {
@@ -55,11 +55,11 @@ pub fn read_length<B: Board>(
     requires place { first < 512 }
     requires room { 256 ≤ length buf.old }
 
-    ensures page { OnOk result (IsTrue (B.device board.old).tells_flash → take 256 buf.new ≡ area_of (256 * area.first) (B.flash board.old).content first) }
-    ensures length { IfOk result (λ found. IsTrue (B.device board.old).tells_flash → found ≡ length_in (area_of (256 * area.first) (B.flash board.old).content first)) }
-    ensures reads { ReadsOnly B.device B.flash B.moment B.images B.sent B.counts 1 board.old board.new }
-    ensures no_fault { OnOk result ((B.counts board.new).flash_faults ≡ (B.counts board.old).flash_faults) }
-    ensures cause { OnErr result (Rose (B.counts board.old).flash_faults (B.counts board.new).flash_faults) }
+    ensures page { OnOk result (IsTrue (B.means.device board.old).tells_flash → take 256 buf.new ≡ area_of (256 * area.first) (B.means.flash board.old).content first) }
+    ensures length { IfOk result (λ found. IsTrue (B.means.device board.old).tells_flash → found ≡ length_in (area_of (256 * area.first) (B.means.flash board.old).content first)) }
+    ensures reads { ReadsOnly B.means 1 board.old board.new }
+    ensures no_fault { OnOk result ((B.means.counts board.new).flash_faults ≡ (B.means.counts board.old).flash_faults) }
+    ensures cause { OnErr result (Rose (B.means.counts board.old).flash_faults (B.means.counts board.new).flash_faults) }
 {
     area.read_page(board, first, &mut buf[..256])?;
     Ok(BigEndian::read_u32(buf))
@@ -78,13 +78,13 @@ pub fn read_rest<B: Board>(
     requires some { 1 ≤ pages }
     requires within { first + pages ≤ 512 }
     requires room { 256 * pages ≤ length buf.old }
-    requires page { IsTrue (B.device board.old).tells_flash → take 256 buf.old ≡ area_of (256 * area.first) (B.flash board.old).content first }
+    requires page { IsTrue (B.means.device board.old).tells_flash → take 256 buf.old ≡ area_of (256 * area.first) (B.means.flash board.old).content first }
 
-    ensures read { OnOk result (IsTrue (B.device board.old).tells_flash
-        → take (256 * pages) buf.new ≡ octets_from (area_of (256 * area.first) (B.flash board.old).content) first pages) }
-    ensures reads { ReadsOnly B.device B.flash B.moment B.images B.sent B.counts (pages - 1) board.old board.new }
-    ensures no_fault { OnOk result ((B.counts board.new).flash_faults ≡ (B.counts board.old).flash_faults) }
-    ensures cause { OnErr result (Rose (B.counts board.old).flash_faults (B.counts board.new).flash_faults) }
+    ensures read { OnOk result (IsTrue (B.means.device board.old).tells_flash
+        → take (256 * pages) buf.new ≡ octets_from (area_of (256 * area.first) (B.means.flash board.old).content) first pages) }
+    ensures reads { ReadsOnly B.means (pages - 1) board.old board.new }
+    ensures no_fault { OnOk result ((B.means.counts board.new).flash_faults ≡ (B.means.counts board.old).flash_faults) }
+    ensures cause { OnErr result (Rose (B.means.counts board.old).flash_faults (B.means.counts board.new).flash_faults) }
 {
     for i in 1..pages {
         let start = 256 * i as usize;

@@ -58,9 +58,9 @@ impl Buffers {
         requires short { length packet.now ≤ 4096 }
         ensures octets { IfOk result (λ octets. octets ≡ length (output_line channel packet.now)) }
         ensures few { IfOk result (λ octets. octets ≤ 8195) }
-        ensures sends { OnOk result ((number : ℕ) (kind : OutputKind) → SendsLines B.device B.moment B.sent B.counts board.old board.new
+        ensures sends { OnOk result ((number : ℕ) (kind : OutputKind) → SendsLines B.means board.old board.new
             (record { command = number; kind = kind; channel = channel; packet = packet.now } ∷ [])) }
-        ensures breaks { OnErr result ((number : ℕ) (kind : OutputKind) → BreaksIn B.device B.moment B.sent B.counts board.old board.new
+        ensures breaks { OnErr result ((number : ℕ) (kind : OutputKind) → BreaksIn B.means board.old board.new
             (record { command = number; kind = kind; channel = channel; packet = packet.now } ∷ [])) }
     {
         send_line(board, channel, packet, &mut self.line)
@@ -71,9 +71,9 @@ impl Buffers {
         requires short { size ≤ 1024 }
         ensures octets { IfOk result (λ octets. octets ≡ length (output_line 0 (take size (written_in self.old)))) }
         ensures few { IfOk result (λ octets. octets ≤ 8195) }
-        ensures sends { OnOk result ((number : ℕ) → SendsLines B.device B.moment B.sent B.counts board.old board.new
+        ensures sends { OnOk result ((number : ℕ) → SendsLines B.means board.old board.new
             (record { command = number; kind = Reply; channel = 0; packet = take size (written_in self.old) } ∷ [])) }
-        ensures breaks { OnErr result ((number : ℕ) → BreaksIn B.device B.moment B.sent B.counts board.old board.new
+        ensures breaks { OnErr result ((number : ℕ) → BreaksIn B.means board.old board.new
             (record { command = number; kind = Reply; channel = 0; packet = take size (written_in self.old) } ∷ [])) }
     {
         send_line(
@@ -106,9 +106,9 @@ impl Buffers {
         requires moment { head.moment < 2 ^ 48 }
         ensures octets { IfOk result (λ octets. octets ≡ length (output_line 0 (report_packet head.count head.moment (verdict_report request verdict)))) }
         ensures few { IfOk result (λ octets. octets ≤ 8195) }
-        ensures sends { OnOk result ((number : ℕ) → SendsLines B.device B.moment B.sent B.counts board.old board.new
+        ensures sends { OnOk result ((number : ℕ) → SendsLines B.means board.old board.new
             (reply number head.moment head.count (verdict_report request verdict) ∷ [])) }
-        ensures breaks { OnErr result ((number : ℕ) → BreaksIn B.device B.moment B.sent B.counts board.old board.new
+        ensures breaks { OnErr result ((number : ℕ) → BreaksIn B.means board.old board.new
             (reply number head.moment head.count (verdict_report request verdict) ∷ [])) }
     {
         let length = self.write_verdict(head, verdict, request);

@@ -35,9 +35,9 @@ fn send_forwarded<B: Board>(
     buffers: &mut Buffers,
     packet: PacketView<'_>,
 ) -> Result<Sent, Failed>
-    ensures sends { OnOk result ((number : ℕ) → SendsLines B.device B.moment B.sent B.counts board.old board.new (forwarded number (octets_of packet.entry))) }
+    ensures sends { OnOk result ((number : ℕ) → SendsLines B.means board.old board.new (forwarded number (octets_of packet.entry))) }
     ensures counted { IfOk result (λ sent. (number : ℕ) → IsCountOf (forwarded number (octets_of packet.entry)) sent) }
-    ensures breaks { OnErr result ((number : ℕ) → BreaksIn B.device B.moment B.sent B.counts board.old board.new (forwarded number (octets_of packet.entry))) }
+    ensures breaks { OnErr result ((number : ℕ) → BreaksIn B.means board.old board.new (forwarded number (octets_of packet.entry))) }
 {
     let octets = buffers.send(board, FORWARDED, packet.bytes())?;
     Ok(Sent {
@@ -54,9 +54,9 @@ fn send_next<B: Board>(
     buffers: &mut Buffers,
 ) -> Result<Sent, Failed>
     ensures table { OnOk result ((number : ℕ) → table_of table.new ≡ (grant number (table_of table.old)).table) }
-    ensures sends { OnOk result ((number : ℕ) → SendsLines B.device B.moment B.sent B.counts board.old board.new (grant number (table_of table.old)).outputs) }
+    ensures sends { OnOk result ((number : ℕ) → SendsLines B.means board.old board.new (grant number (table_of table.old)).outputs) }
     ensures counted { IfOk result (λ sent. (number : ℕ) → IsCountOf (grant number (table_of table.old)).outputs sent) }
-    ensures breaks { OnErr result ((number : ℕ) → BreaksIn B.device B.moment B.sent B.counts board.old board.new (grant number (table_of table.old)).outputs) }
+    ensures breaks { OnErr result ((number : ℕ) → BreaksIn B.means board.old board.new (grant number (table_of table.old)).outputs) }
 {
     let Some(packet) = table.next() else {
         return Ok(Sent::default());
@@ -109,9 +109,9 @@ impl Handler {
         requires open { IsTrue (is_open self.old) }
         requires moment { moment < 2 ^ 48 }
         ensures table { OnOk result ((number : ℕ) → table_in self.new ≡ (arrive number moment (octets_of packet.entry) (table_in self.old)).table) }
-        ensures sends { OnOk result ((number : ℕ) → SendsLines B.device B.moment B.sent B.counts board.old board.new (arrive number moment (octets_of packet.entry) (table_in self.old)).outputs) }
+        ensures sends { OnOk result ((number : ℕ) → SendsLines B.means board.old board.new (arrive number moment (octets_of packet.entry) (table_in self.old)).outputs) }
         ensures counted { IfOk result (λ sent. (number : ℕ) → IsCountOf (arrive number moment (octets_of packet.entry) (table_in self.old)).outputs sent) }
-        ensures breaks { OnLink result ((number : ℕ) → BreaksIn B.device B.moment B.sent B.counts board.old board.new (arrive number moment (octets_of packet.entry) (table_in self.old)).outputs) }
+        ensures breaks { OnLink result ((number : ℕ) → BreaksIn B.means board.old board.new (arrive number moment (octets_of packet.entry) (table_in self.old)).outputs) }
         ensures nothing { OnNoMemory result ((board.new ≡ board.old) × (table_in self.new ≡ table_in self.old)) }
         ensures open { OnOk result (is_open self.new ≡ true) }
         ensures closed { OnLink result (is_open self.new ≡ false) }
@@ -143,9 +143,9 @@ impl Handler {
         requires open { IsTrue (is_open self.old) }
         requires moment { moment < 2 ^ 48 }
         ensures table { OnOk result ((number : ℕ) → table_in self.new ≡ (answer number moment (octets_of packet.entry) (table_in self.old)).table) }
-        ensures sends { OnOk result ((number : ℕ) → SendsLines B.device B.moment B.sent B.counts board.old board.new (answer number moment (octets_of packet.entry) (table_in self.old)).outputs) }
+        ensures sends { OnOk result ((number : ℕ) → SendsLines B.means board.old board.new (answer number moment (octets_of packet.entry) (table_in self.old)).outputs) }
         ensures counted { IfOk result (λ sent. (number : ℕ) → IsCountOf (answer number moment (octets_of packet.entry) (table_in self.old)).outputs sent) }
-        ensures breaks { OnLink result ((number : ℕ) → BreaksIn B.device B.moment B.sent B.counts board.old board.new (answer number moment (octets_of packet.entry) (table_in self.old)).outputs) }
+        ensures breaks { OnLink result ((number : ℕ) → BreaksIn B.means board.old board.new (answer number moment (octets_of packet.entry) (table_in self.old)).outputs) }
         ensures nothing { OnNoMemory result ((board.new ≡ board.old) × (table_in self.new ≡ table_in self.old)) }
         ensures faults { OnErr result (result ≡ Err HandlerFault.Link) }
         ensures open { is_open self.new ≡ is_ok result }
@@ -171,9 +171,9 @@ impl Handler {
         requires open { IsTrue (is_open self.old) }
         requires moment { moment < 2 ^ 48 }
         ensures table { OnOk result ((number : ℕ) → table_in self.new ≡ (grant number (table_in self.old)).table) }
-        ensures sends { OnOk result ((number : ℕ) → SendsLines B.device B.moment B.sent B.counts board.old board.new (grant number (table_in self.old)).outputs) }
+        ensures sends { OnOk result ((number : ℕ) → SendsLines B.means board.old board.new (grant number (table_in self.old)).outputs) }
         ensures counted { IfOk result (λ sent. (number : ℕ) → IsCountOf (grant number (table_in self.old)).outputs sent) }
-        ensures breaks { OnLink result ((number : ℕ) → BreaksIn B.device B.moment B.sent B.counts board.old board.new (grant number (table_in self.old)).outputs) }
+        ensures breaks { OnLink result ((number : ℕ) → BreaksIn B.means board.old board.new (grant number (table_in self.old)).outputs) }
         ensures nothing { OnNoMemory result ((board.new ≡ board.old) × (table_in self.new ≡ table_in self.old)) }
         ensures faults { OnErr result (result ≡ Err HandlerFault.Link) }
         ensures open { is_open self.new ≡ is_ok result }

@@ -28,11 +28,11 @@ pub fn send_verdicts<B: Board>(
     requires moment { moment < 2 ^ 48 }
     requires few { length verdicts.now ≤ 34 }
     ensures table { OnOk result ((number : ℕ) → table_of table.new ≡ (replied number moment (table_of table.old) (map (verdict_report request) verdicts.now)).table) }
-    ensures sends { OnOk result ((number : ℕ) → SendsLines B.device B.moment B.sent B.counts board.old board.new
+    ensures sends { OnOk result ((number : ℕ) → SendsLines B.means board.old board.new
         (replied number moment (table_of table.old) (map (verdict_report request) verdicts.now)).outputs) }
     ensures counted { IfOk result (λ sent. (number : ℕ) → IsCountOf (replied number moment (table_of table.old) (map (verdict_report request) verdicts.now)).outputs sent) }
     ensures small { IfOk result IsSmall }
-    ensures breaks { OnErr result ((number : ℕ) → BreaksIn B.device B.moment B.sent B.counts board.old board.new
+    ensures breaks { OnErr result ((number : ℕ) → BreaksIn B.means board.old board.new
         (replied number moment (table_of table.old) (map (verdict_report request) verdicts.now)).outputs) }
 {
     let mut sent = Sent::default();
@@ -59,11 +59,11 @@ pub fn send_content<B: Board>(
 ) -> Result<Sent, Failed>
     requires { moment < 2 ^ 48 }
     ensures table { OnOk result ((number : ℕ) → table_of table.new ≡ (replied number moment (table_of table.old) (content_asked asked.entry (table_of table.old))).table) }
-    ensures sends { OnOk result ((number : ℕ) → SendsLines B.device B.moment B.sent B.counts board.old board.new
+    ensures sends { OnOk result ((number : ℕ) → SendsLines B.means board.old board.new
         (replied number moment (table_of table.old) (content_asked asked.entry (table_of table.old))).outputs) }
     ensures counted { IfOk result (λ sent. (number : ℕ) → IsCountOf (replied number moment (table_of table.old) (content_asked asked.entry (table_of table.old))).outputs sent) }
     ensures small { IfOk result IsSmall }
-    ensures breaks { OnErr result ((number : ℕ) → BreaksIn B.device B.moment B.sent B.counts board.old board.new
+    ensures breaks { OnErr result ((number : ℕ) → BreaksIn B.means board.old board.new
         (replied number moment (table_of table.old) (content_asked asked.entry (table_of table.old))).outputs) }
 {
     let Some(items) = asked else {
@@ -96,10 +96,10 @@ pub fn send_answer<B: Board>(
 ) -> Result<Sent, Failed>
     requires { moment < 2 ^ 48 }
     ensures table { OnOk result ((number : ℕ) → table_of table.new ≡ (replied number moment (table_of table.old) (reports_in request decision.now (table_of table.old))).table) }
-    ensures sends { OnOk result ((number : ℕ) → SendsLines B.device B.moment B.sent B.counts board.old board.new
+    ensures sends { OnOk result ((number : ℕ) → SendsLines B.means board.old board.new
         (replied number moment (table_of table.old) (reports_in request decision.now (table_of table.old))).outputs) }
     ensures counted { IfOk result (λ sent. (number : ℕ) → IsCountOf (replied number moment (table_of table.old) (reports_in request decision.now (table_of table.old))).outputs sent) }
-    ensures breaks { OnErr result ((number : ℕ) → BreaksIn B.device B.moment B.sent B.counts board.old board.new
+    ensures breaks { OnErr result ((number : ℕ) → BreaksIn B.means board.old board.new
         (replied number moment (table_of table.old) (reports_in request decision.now (table_of table.old))).outputs) }
 {
     let first = send_verdicts(

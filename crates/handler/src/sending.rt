@@ -20,9 +20,9 @@ pub fn send_line<B: Board>(
     requires room { 8195 ≤ length line.old }
     ensures octets { IfOk result (λ octets. octets ≡ length (output_line channel packet.now)) }
     ensures few { IfOk result (λ octets. octets ≤ 8195) }
-    ensures sends { OnOk result ((number : ℕ) (kind : OutputKind) → SendsLines B.device B.moment B.sent B.counts board.old board.new
+    ensures sends { OnOk result ((number : ℕ) (kind : OutputKind) → SendsLines B.means board.old board.new
         (record { command = number; kind = kind; channel = channel; packet = packet.now } ∷ [])) }
-    ensures breaks { OnErr result ((number : ℕ) (kind : OutputKind) → BreaksIn B.device B.moment B.sent B.counts board.old board.new
+    ensures breaks { OnErr result ((number : ℕ) (kind : OutputKind) → BreaksIn B.means board.old board.new
         (record { command = number; kind = kind; channel = channel; packet = packet.now } ∷ [])) }
 {
     let octets = write_line(channel, packet, line);

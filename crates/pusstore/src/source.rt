@@ -33,11 +33,7 @@ fn read_some<R: Read>(input: &mut R, into: &mut [u8]) -> Option<usize>
 }
 
 impl<R: Read + Drop> Source for StdSource<R> {
-    ghost tells = { λ source. false };
-
-    ghost left = { λ source. [] };
-
-    ghost faults = { λ source. source.faults };
+    ghost means = { record { tells = λ source. false; left = λ source. []; faults = λ source. source.faults } };
 
     fn take(&mut self, into: &mut [u8]) -> Result<usize, Failed> {
         match read_some(&mut self.input, into) {

@@ -64,13 +64,13 @@ impl Held {
     /// text.
     pub fn fill<S: Source>(&mut self, source: &mut S) -> Result<usize, Failed>
         requires { length self.old ≤ 131201 }
-        ensures gains { IfOk result (λ count. Gains self.old self.new count (S.tells source.old) (S.left source.old) (S.left source.new)) }
+        ensures gains { IfOk result (λ count. Gains self.old self.new count (S.means.tells source.old) (S.means.left source.old) (S.means.left source.new)) }
         ensures failed { OnErr result (self.new ≡ self.old) }
-        ensures kept { OnErr result (IsTrue (S.tells source.old) → S.left source.new ≡ S.left source.old) }
-        ensures same { S.tells source.new ≡ S.tells source.old }
-        ensures faults { S.faults source.old ≤ S.faults source.new }
-        ensures no_fault { OnOk result (S.faults source.new ≡ S.faults source.old) }
-        ensures cause { OnErr result (Rose (S.faults source.old) (S.faults source.new)) }
+        ensures kept { OnErr result (IsTrue (S.means.tells source.old) → S.means.left source.new ≡ S.means.left source.old) }
+        ensures same { S.means.tells source.new ≡ S.means.tells source.old }
+        ensures faults { S.means.faults source.old ≤ S.means.faults source.new }
+        ensures no_fault { OnOk result (S.means.faults source.new ≡ S.means.faults source.old) }
+        ensures cause { OnErr result (Rose (S.means.faults source.old) (S.means.faults source.new)) }
     {
         if self.end == ROOM {
             self.octets.copy_within(self.start..self.end, 0);

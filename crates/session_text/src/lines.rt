@@ -49,13 +49,13 @@ pub enum Found {
 
 // Takes octets until the first line that is held is whole.
 fn find_line<S: Source>(held: &mut Held, source: &mut S) -> Found
-    ensures found { Finds held.new (S.tells source.old) (S.left source.new) result }
+    ensures found { Finds held.new (S.means.tells source.old) (S.means.left source.new) result }
     ensures still { Contains held.old 10 → source.new ≡ source.old }
-    ensures text { IsTrue (S.tells source.old) → held.new ++ S.left source.new ≡ held.old ++ S.left source.old }
-    ensures same { S.tells source.new ≡ S.tells source.old }
-    ensures faults { S.faults source.old ≤ S.faults source.new }
-    ensures no_fault { UnlessFailed result (S.faults source.new ≡ S.faults source.old) }
-    ensures cause { OnFailed result (Rose (S.faults source.old) (S.faults source.new)) }
+    ensures text { IsTrue (S.means.tells source.old) → held.new ++ S.means.left source.new ≡ held.old ++ S.means.left source.old }
+    ensures same { S.means.tells source.new ≡ S.means.tells source.old }
+    ensures faults { S.means.faults source.old ≤ S.means.faults source.new }
+    ensures no_fault { UnlessFailed result (S.means.faults source.new ≡ S.means.faults source.old) }
+    ensures cause { OnFailed result (Rose (S.means.faults source.old) (S.means.faults source.new)) }
 {
     let mut seen = 0;
     'takes: loop {
@@ -112,14 +112,14 @@ impl Lines {
         source: &mut S,
     ) -> Result<Option<Command<'a>>, LineEnd>
         requires { IsTrue (reader_of self.old).live }
-        ensures* moves { sem 𝓛 (RestsMoved self.entry (S.tells source.old) (S.left source.old) (S.left source.new) result) }
-        ensures next { IsTrue (S.tells source.old) → Tells command_of (reader_of self.old) (next_at (reader_of self.old) (S.left source.old)) result }
+        ensures* moves { sem 𝓛 (RestsMoved self.entry (S.means.tells source.old) (S.means.left source.old) (S.means.left source.new) result) }
+        ensures next { IsTrue (S.means.tells source.old) → Tells command_of (reader_of self.old) (next_at (reader_of self.old) (S.means.left source.old)) result }
         ensures moment { IfOk result (λ command. IfSome command (λ c. moment_of c < 2 ^ 48)) }
         ensures still { Contains (reader_of self.old).pending 10 → source.new ≡ source.old }
-        ensures same { S.tells source.new ≡ S.tells source.old }
-        ensures faults { S.faults source.old ≤ S.faults source.new }
-        ensures no_fault { UnlessSource result (S.faults source.new ≡ S.faults source.old) }
-        ensures cause { OnSource result (Rose (S.faults source.old) (S.faults source.new)) }
+        ensures same { S.means.tells source.new ≡ S.means.tells source.old }
+        ensures faults { S.means.faults source.old ≤ S.means.faults source.new }
+        ensures no_fault { UnlessSource result (S.means.faults source.new ≡ S.means.faults source.old) }
+        ensures cause { OnSource result (Rose (S.means.faults source.old) (S.means.faults source.new)) }
     {
         let Some(form) = self.advance(source)? else {
             return Ok(None);
@@ -130,14 +130,14 @@ impl Lines {
     // Moves on behind the next line, and keeps the octets of its packet.
     fn advance<S: Source>(&mut self, source: &mut S) -> Result<Option<Form>, LineEnd>
         requires { IsTrue (reader_of self.old).live }
-        ensures moves { MovesOn (reader_of self.old) (reader_of self.new) (S.tells source.old) (S.left source.old) (S.left source.new) result }
-        ensures next { IsTrue (S.tells source.old) → Tells (command_in self.new.packet.items) (reader_of self.old) (next_at (reader_of self.old) (S.left source.old)) result }
+        ensures moves { MovesOn (reader_of self.old) (reader_of self.new) (S.means.tells source.old) (S.means.left source.old) (S.means.left source.new) result }
+        ensures next { IsTrue (S.means.tells source.old) → Tells (command_in self.new.packet.items) (reader_of self.old) (next_at (reader_of self.old) (S.means.left source.old)) result }
         ensures held { IfOk result (λ form. IfSome form (IsHeld self.new.packet.items)) }
         ensures still { Contains (reader_of self.old).pending 10 → source.new ≡ source.old }
-        ensures same { S.tells source.new ≡ S.tells source.old }
-        ensures faults { S.faults source.old ≤ S.faults source.new }
-        ensures no_fault { UnlessSource result (S.faults source.new ≡ S.faults source.old) }
-        ensures cause { OnSource result (Rose (S.faults source.old) (S.faults source.new)) }
+        ensures same { S.means.tells source.new ≡ S.means.tells source.old }
+        ensures faults { S.means.faults source.old ≤ S.means.faults source.new }
+        ensures no_fault { UnlessSource result (S.means.faults source.new ≡ S.means.faults source.old) }
+        ensures cause { OnSource result (Rose (S.means.faults source.old) (S.means.faults source.new)) }
     {
         match find_line(&mut self.held, source) {
             Found::Line(length) => match self.read_line(length) {

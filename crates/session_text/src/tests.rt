@@ -21,11 +21,7 @@ struct Pieces<'a> {
 }
 
 impl<'a> Source for Pieces<'a> {
-    ghost tells = { λ pieces. true };
-
-    ghost left = { λ pieces. pieces.text.now };
-
-    ghost faults = { λ pieces. 0 };
+    ghost means = { record { tells = λ pieces. true; left = λ pieces. pieces.text.now; faults = λ pieces. 0 } };
 
     fn take(&mut self, into: &mut [u8]) -> Result<usize, Failed> {
         let count = self.text.len().min(into.len()).min(self.most);

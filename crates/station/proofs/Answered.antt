@@ -1,8 +1,8 @@
 -- What a turn of a session makes of the reader's answer.
-use Rattle.std.proofs.Common.{◌≡◌, ℕ, ◌≤◌, Bool, List, ◌++◌, drop, Option, Some, None, Result, Ok, Err, ◌∙◌, ap, subst}
+use Rattle.std.proofs.Common.{◌≡◌, ℕ, ◌≤◌, ◌++◌, drop, Option, Some, None, Result, Ok, Err, ◌∙◌, ap, subst}
 use Rattle.std.specs.Prelude.{IsTrue}
-use Rattle.board.specs.Counts.{Counts, Rose}
-use Rattle.board.specs.Device.{Device}
+use Rattle.board.specs.Counts.{Rose}
+use Rattle.board.specs.Meaning.{BoardMeaning, SourceMeaning}
 use Rattle.session_text.specs.declared.command.Command.{Command as View}
 use Rattle.session_text.specs.declared.fault.LineEnd.{LineEnd}
 use Rattle.session_text.specs.declared.fault.LineEnd.TheVariants as ends
@@ -16,15 +16,17 @@ use Rattle.pst_model.specs.Table.{Table}
 use Rattle.station.proofs.Turns.{Advances, ended_bad, ended_done, ended_source}
 
 -- the answer of a reader, and what it left
-module _ {S : Type 0} (tells : S → Bool) (left : S → List ℕ) (reader reader' : Reader) (source source' : S) (result : Result (Option View) LineEnd)
-    (moves : MovesOn reader reader' (tells source) (left source) (left source') result) (next : IsTrue (tells source) → Tells command_of reader (next_at reader (left source)) result) where
-  moves_as : (answer : Result (Option View) LineEnd) → result ≡ answer → MovesOn reader reader' (tells source) (left source) (left source') answer
-  moves_as answer is = subst (λ (r : Result (Option View) LineEnd). MovesOn reader reader' (tells source) (left source) (left source') r) is moves
+module _ {S : Type 0} (input : SourceMeaning S) (reader reader' : Reader) (source source' : S) (result : Result (Option View) LineEnd)
+    (moves : MovesOn reader reader' (input.tells source) (input.left source) (input.left source') result) (next : IsTrue (input.tells source) → Tells command_of reader (next_at reader (input.left source)) result) where
+  moves_as : (answer : Result (Option View) LineEnd) → result ≡ answer
+      → MovesOn reader reader' (input.tells source) (input.left source) (input.left source') answer
+  moves_as answer is = subst (λ (r : Result (Option View) LineEnd). MovesOn reader reader' (input.tells source) (input.left source) (input.left source') r) is moves
 
-  next_as : (answer : Result (Option View) LineEnd) → result ≡ answer → IsTrue (tells source) → Tells command_of reader (next_at reader (left source)) answer
-  next_as answer is told = subst (λ (r : Result (Option View) LineEnd). Tells command_of reader (next_at reader (left source)) r) is (next told)
+  next_as : (answer : Result (Option View) LineEnd) → result ≡ answer → IsTrue (input.tells source)
+      → Tells command_of reader (next_at reader (input.left source)) answer
+  next_as answer is told = subst (λ (r : Result (Option View) LineEnd). Tells command_of reader (next_at reader (input.left source)) r) is (next told)
 
-  pub advances : (command : View) → result ≡ Ok (Some command) → Advances tells left reader reader' source source' (command_of command)
+  pub advances : (command : View) → result ≡ Ok (Some command) → Advances input reader reader' source source' (command_of command)
   advances command is =
       let moved = moves_as (Ok (Some command)) is in
       record {
@@ -36,25 +38,28 @@ module _ {S : Type 0} (tells : S → Bool) (left : S → List ℕ) (reader reade
         text = moved.text;
       }
 
-  at_end : result ≡ Ok None → IsTrue (tells source) → reader'.pending ++ left source' ≡ reader.pending ++ left source
+  at_end : result ≡ Ok None → IsTrue (input.tells source) → reader'.pending ++ input.left source' ≡ reader.pending ++ input.left source
   at_end is told =
       (moves_as (Ok None) is).text told
-      ∙ ap (λ (size : ℕ). drop size (reader.pending ++ left source)) (ap size_of_next (next_as (Ok None) is told))
+      ∙ ap (λ (size : ℕ). drop size (reader.pending ++ input.left source)) (ap size_of_next (next_as (Ok None) is told))
 
-  at_error : (end : LineEnd) → result ≡ Err end → IsTrue (tells source) → reader'.pending ++ left source' ≡ reader.pending ++ left source
+  at_error : (end : LineEnd) → result ≡ Err end → IsTrue (input.tells source)
+      → reader'.pending ++ input.left source' ≡ reader.pending ++ input.left source
   at_error end is told = (moves_as (Err end) is).text told
 
-  module _ {B : Type 0} (device : B → Device) (moment : B → ℕ) (sent : B → ℕ → List ℕ) (counts : B → Counts) (faults : S → ℕ) (first board : B) (origin : S) (table : Table)
-      (carried : Carried device moment sent counts tells left faults first board origin source reader table) (same_tells : tells source' ≡ tells source) (from : faults source ≤ faults source') where
-    pub done_by : result ≡ Ok None → faults source' ≡ faults source → Ended device moment sent counts tells left faults first board origin source' Done
-    done_by is kept = ended_done device moment sent counts tells left faults first board origin source reader table carried source' reader'.pending (at_end is) same_tells from kept (next_as (Ok None) is)
+  module _ {B : Type 0} (means : BoardMeaning B) (first board : B) (origin : S) (table : Table)
+      (carried : Carried means input first board origin source reader table) (same_tells : input.tells source' ≡ input.tells source) (from : input.faults source ≤ input.faults source') where
+    pub done_by : result ≡ Ok None → input.faults source' ≡ input.faults source → Ended means input first board origin source' Done
+    done_by is kept = ended_done means input first board origin source reader table carried source' reader'.pending (at_end is) same_tells from kept (next_as (Ok None) is)
 
-    pub bad_by : (line : ℕ) (why : LineFault) → result ≡ Err (ends.Bad line why) → faults source' ≡ faults source → Ended device moment sent counts tells left faults first board origin source' (BadLine line why)
+    pub bad_by : (line : ℕ) (why : LineFault) → result ≡ Err (ends.Bad line why) → input.faults source' ≡ input.faults source
+        → Ended means input first board origin source' (BadLine line why)
     bad_by line why is kept =
-        ended_bad device moment sent counts tells left faults first board origin source reader table carried source' reader'.pending line why
+        ended_bad means input first board origin source reader table carried source' reader'.pending line why
         (at_error (ends.Bad line why) is) same_tells from kept (next_as (Err (ends.Bad line why)) is)
 
-    pub source_by : result ≡ Err ends.Source → Rose (faults source) (faults source') → Ended device moment sent counts tells left faults first board origin source' SourceFault
+    pub source_by : result ≡ Err ends.Source → Rose (input.faults source) (input.faults source')
+        → Ended means input first board origin source' SourceFault
     source_by is rose =
-        ended_source device moment sent counts tells left faults first board origin source reader table carried source' reader'.pending
+        ended_source means input first board origin source reader table carried source' reader'.pending
         (at_error ends.Source is) same_tells from (moves_as (Err ends.Source) is).unended rose

@@ -5,7 +5,7 @@ use Rattle.board.specs.declared.memory_source.MemSource.{MemSource}
 use Rattle.board.specs.Counts.{Counts, Rose}
 use Rattle.board.specs.Device.{Device}
 use Rattle.board.specs.Flash.{blank}
-use Rattle.board.specs.Memory.{IsNewBoard, counts_of, device_of, moment_of, sent_at}
+use Rattle.board.specs.Memory.{IsNewBoard, counts_of, device_of, memory_means, moment_of, sent_at}
 use Rattle.board.specs.MemorySource.{IsNewSource, faults_of, left_of}
 use Rattle.board.specs.Moments.{IsPrefixOf, SendsOnly}
 use Rattle.station.specs.declared.ending.Ending.{Ending}
@@ -21,7 +21,7 @@ unrisen old new was is (inr end) = absurd (omega arith)
 module _ (text : List ℕ) (ending : Ending) (blocks : ℕ) (board board' : MemBoard) (source source' : MemSource) (made : IsNewBoard blocks (λ p. blank) true board) (given : IsNewSource text source) where
   pub rehearsed : device_of board' ≡ device_of board → ending ≢ BadWords → left_of source ≡ taken_of (left_of source) (left_of source') ++ left_of source' → EndsReading (left_of source) (left_of source') ending
       → ((gained : List ℕ) × (sent_at board' (moment_of board') ≡ sent_at board (moment_of board) ++ gained) × EndsSending (left_of source) (left_of source') gained ending)
-      → SendsOnly moment_of sent_at board board' (MayBeSent true (read_of (left_of source) (left_of source')) (sent_at board (moment_of board)))
+      → SendsOnly memory_means board board' (MayBeSent true (read_of (left_of source) (left_of source')) (sent_at board (moment_of board)))
       → ((Rose (counts_of board).link_faults (counts_of board').link_faults → ⊥) → (Rose (faults_of source) (faults_of source') → ⊥) → EndsAsTold (left_of source) ending)
       → Rehearsed blocks text ending board' source'
   rehearsed same known taken reading sending moments complete = record {

@@ -1,7 +1,7 @@
 -- A session: what it has carried out so far, and what its ending says.
 use Rattle.std.specs.Prelude.{◌≡◌, ◌≢◌, ◌⊎◌, ◌≤◌, ◌-◌, ◌++◌, ℕ, Bool, true, List, [], length, take, IsTrue, Some, None, MatchOption, ⊤}
-use Rattle.board.specs.Counts.{Counts, Rose}
-use Rattle.board.specs.Device.{Device}
+use Rattle.board.specs.Counts.{Rose}
+use Rattle.board.specs.Meaning.{BoardMeaning, SourceMeaning}
 use Rattle.board.specs.Moments.{GainsFront, SendsOnly}
 use Rattle.pst_model.specs.Command.{Command}
 use Rattle.session_text.specs.Lending.{Reader}
@@ -66,35 +66,35 @@ EndsAsTold text ending = MatchOption (first_bad text_limit text)
     ((ending ≡ Done) ⊎ (ending ≡ NoMemory))
     (λ bad. (ending ≡ BadLine bad.0 bad.1) ⊎ (ending ≡ NoMemory))
 
-module _ {B S : Type 0} (device : B → Device) (moment : B → ℕ) (sent : B → ℕ → List ℕ) (counts : B → Counts) (tells : S → Bool) (left : S → List ℕ) (faults : S → ℕ) where
+module _ {B S : Type 0} (means : BoardMeaning B) (input : SourceMeaning S) where
   -- Since the board and the source at first, these commands were carried out, and no others read.
   pub record Carried (board board' : B) (source source' : S) (reader : Reader) (table : Table) : Type 0 where
     pub done : List Command
     pub live : reader.live ≡ true
     pub limit : reader.limit ≡ text_limit
-    pub read : IsTrue (tells source) → HasRead (left source) done reader (left source')
+    pub read : IsTrue (input.tells source) → HasRead (input.left source) done reader (input.left source')
     pub stands : table ≡ (run after_format done).table
-    pub gained : IsTrue (device board).tells_link → sent board' (moment board') ≡ sent board (moment board) ++ lines_for done
-    pub moments : IsTrue (device board).tells_link → SendsOnly moment sent board board' (GainsFront (sent board (moment board)) (lines_for done))
-    pub same_device : device board' ≡ device board
-    pub same_tells : tells source' ≡ tells source
-    pub link_faults : (counts board').link_faults ≡ (counts board).link_faults
-    pub source_faults : faults source' ≡ faults source
+    pub gained : IsTrue (means.device board).tells_link → means.sent board' (means.moment board') ≡ means.sent board (means.moment board) ++ lines_for done
+    pub moments : IsTrue (means.device board).tells_link → SendsOnly means board board' (GainsFront (means.sent board (means.moment board)) (lines_for done))
+    pub same_device : means.device board' ≡ means.device board
+    pub same_tells : input.tells source' ≡ input.tells source
+    pub link_faults : (means.counts board').link_faults ≡ (means.counts board).link_faults
+    pub source_faults : input.faults source' ≡ input.faults source
 
   -- A session that began with the first board and source ended so with the others.
   pub record Ended (board board' : B) (source source' : S) (ending : Ending) : Type 0 where
     pub known : ending ≢ BadWords
-    pub taken : IsTrue (tells source) → left source ≡ taken_of (left source) (left source') ++ left source'
-    pub reading : IsTrue (tells source) → EndsReading (left source) (left source') ending
-    pub sending : IsTrue (device board).tells_link → IsTrue (tells source)
-        → (gained : List ℕ) × (sent board' (moment board') ≡ sent board (moment board) ++ gained) × EndsSending (left source) (left source') gained ending
-    pub moments : IsTrue (device board).tells_link
-        → SendsOnly moment sent board board' (MayBeSent (tells source) (read_of (left source) (left source')) (sent board (moment board)))
-    pub link_cause : ending ≡ LinkFault → Rose (counts board).link_faults (counts board').link_faults
-    pub source_cause : ending ≡ SourceFault → Rose (faults source) (faults source')
-    pub link_kept : ending ≢ LinkFault → (counts board').link_faults ≡ (counts board).link_faults
-    pub source_kept : ending ≢ SourceFault → faults source' ≡ faults source
-    pub same_device : device board' ≡ device board
-    pub same_tells : tells source' ≡ tells source
-    pub link_faults : (counts board).link_faults ≤ (counts board').link_faults
-    pub source_faults : faults source ≤ faults source'
+    pub taken : IsTrue (input.tells source) → input.left source ≡ taken_of (input.left source) (input.left source') ++ input.left source'
+    pub reading : IsTrue (input.tells source) → EndsReading (input.left source) (input.left source') ending
+    pub sending : IsTrue (means.device board).tells_link → IsTrue (input.tells source)
+        → (gained : List ℕ) × (means.sent board' (means.moment board') ≡ means.sent board (means.moment board) ++ gained) × EndsSending (input.left source) (input.left source') gained ending
+    pub moments : IsTrue (means.device board).tells_link
+        → SendsOnly means board board' (MayBeSent (input.tells source) (read_of (input.left source) (input.left source')) (means.sent board (means.moment board)))
+    pub link_cause : ending ≡ LinkFault → Rose (means.counts board).link_faults (means.counts board').link_faults
+    pub source_cause : ending ≡ SourceFault → Rose (input.faults source) (input.faults source')
+    pub link_kept : ending ≢ LinkFault → (means.counts board').link_faults ≡ (means.counts board).link_faults
+    pub source_kept : ending ≢ SourceFault → input.faults source' ≡ input.faults source
+    pub same_device : means.device board' ≡ means.device board
+    pub same_tells : input.tells source' ≡ input.tells source
+    pub link_faults : (means.counts board).link_faults ≤ (means.counts board').link_faults
+    pub source_faults : input.faults source ≤ input.faults source'

@@ -32,8 +32,8 @@ fn carry_out<B: Board>(
     requires open { IsTrue (is_open handler.old) }
     requires moment { moment_of command < 2 ^ 48 }
     ensures table { OnOk result ((number : ℕ) → table_in handler.new ≡ (step number (command_of command.entry) (table_in handler.old)).table) }
-    ensures sends { OnOk result ((number : ℕ) → SendsLines B.device B.moment B.sent B.counts board.old board.new (step number (command_of command.entry) (table_in handler.old)).outputs) }
-    ensures breaks { OnLink result ((number : ℕ) → BreaksIn B.device B.moment B.sent B.counts board.old board.new (step number (command_of command.entry) (table_in handler.old)).outputs) }
+    ensures sends { OnOk result ((number : ℕ) → SendsLines B.means board.old board.new (step number (command_of command.entry) (table_in handler.old)).outputs) }
+    ensures breaks { OnLink result ((number : ℕ) → BreaksIn B.means board.old board.new (step number (command_of command.entry) (table_in handler.old)).outputs) }
     ensures nothing { OnNoMemory result (board.new ≡ board.old) }
     ensures open { OnOk result (is_open handler.new ≡ true) }
 {
@@ -55,11 +55,11 @@ fn take_turn<B: Board, S: Source>(
     requires open { IsTrue (is_open handler.old) }
     requires live { IsTrue (reader_of lines.old).live }
     ensures goes_on { IfNone result ((first : _) (origin : _)
-        → Carried B.device B.moment B.sent B.counts S.tells S.left S.faults first board.old origin source.old (reader_of lines.old) (table_in handler.old)
-        → Carried B.device B.moment B.sent B.counts S.tells S.left S.faults first board.new origin source.new (reader_of lines.new) (table_in handler.new)) }
+        → Carried B.means S.means first board.old origin source.old (reader_of lines.old) (table_in handler.old)
+        → Carried B.means S.means first board.new origin source.new (reader_of lines.new) (table_in handler.new)) }
     ensures ends { IfSome result (λ ending. (first : _) (origin : _)
-        → Carried B.device B.moment B.sent B.counts S.tells S.left S.faults first board.old origin source.old (reader_of lines.old) (table_in handler.old)
-        → Ended B.device B.moment B.sent B.counts S.tells S.left S.faults first board.new origin source.new ending) }
+        → Carried B.means S.means first board.old origin source.old (reader_of lines.old) (table_in handler.old)
+        → Ended B.means S.means first board.new origin source.new ending) }
     ensures progress { IfNone result ((reader_of lines.old).place < (reader_of lines.new).place) }
     ensures within { (reader_of lines.new).place ≤ (reader_of lines.new).limit }
     ensures limit { (reader_of lines.new).limit ≡ (reader_of lines.old).limit }
@@ -89,7 +89,7 @@ fn carry_out_all<B: Board, S: Source>(
     requires open { IsTrue (is_open handler.old) }
     requires reader { IsStart (reader_of lines.old) }
     requires table { table_in handler.old ≡ after_format }
-    ensures { Ended B.device B.moment B.sent B.counts S.tells S.left S.faults board.old board.new source.old source.new result }
+    ensures { Ended B.means S.means board.old board.new source.old source.new result }
 {
     'commands: loop {
         if let Some(ending) = take_turn(alloc, lines, handler, source, board) {
@@ -110,28 +110,28 @@ pub fn station<B: Board, S: Source>(
     ensures unchanged { result ≡ Ending.BadWords → (board.new ≡ board.old) × (source.new ≡ source.old) }
 
     // What was taken of the text, and what the ending says of it.
-    ensures taken { IsTrue (S.tells source.old) → S.left source.old ≡ taken_of (S.left source.old) (S.left source.new) ++ S.left source.new }
-    ensures reading { IsTrue (S.tells source.old) → EndsReading (S.left source.old) (S.left source.new) result }
+    ensures taken { IsTrue (S.means.tells source.old) → S.means.left source.old ≡ taken_of (S.means.left source.old) (S.means.left source.new) ++ S.means.left source.new }
+    ensures reading { IsTrue (S.means.tells source.old) → EndsReading (S.means.left source.old) (S.means.left source.new) result }
 
     // What was sent, at the ending and at every moment.
-    ensures sending { IsTrue (B.device board.old).tells_link → IsTrue (S.tells source.old)
-        → (gained : List ℕ) × (B.sent board.new (B.moment board.new) ≡ B.sent board.old (B.moment board.old) ++ gained)
-        × EndsSending (S.left source.old) (S.left source.new) gained result }
-    ensures any_moment { IsTrue (B.device board.old).tells_link → SendsOnly B.moment B.sent board.old board.new
-        (MayBeSent (S.tells source.old) (read_of (S.left source.old) (S.left source.new)) (B.sent board.old (B.moment board.old))) }
+    ensures sending { IsTrue (B.means.device board.old).tells_link → IsTrue (S.means.tells source.old)
+        → (gained : List ℕ) × (B.means.sent board.new (B.means.moment board.new) ≡ B.means.sent board.old (B.means.moment board.old) ++ gained)
+        × EndsSending (S.means.left source.old) (S.means.left source.new) gained result }
+    ensures any_moment { IsTrue (B.means.device board.old).tells_link → SendsOnly B.means board.old board.new
+        (MayBeSent (S.means.tells source.old) (read_of (S.means.left source.old) (S.means.left source.new)) (B.means.sent board.old (B.means.moment board.old))) }
 
     // Where an ending comes from, and that no failure is kept quiet.
-    ensures link_cause { result ≡ Ending.LinkFault → Rose (B.counts board.old).link_faults (B.counts board.new).link_faults }
-    ensures source_cause { result ≡ Ending.SourceFault → Rose (S.faults source.old) (S.faults source.new) }
-    ensures no_fault { (¬ (result ≡ Ending.LinkFault) → (B.counts board.new).link_faults ≡ (B.counts board.old).link_faults)
-        × (¬ (result ≡ Ending.SourceFault) → S.faults source.new ≡ S.faults source.old) }
-    ensures complete { AreFresh (texts_of words.now) → IsTrue (S.tells source.old)
-        → ¬ (Rose (B.counts board.old).link_faults (B.counts board.new).link_faults) → ¬ (Rose (S.faults source.old) (S.faults source.new))
-        → EndsAsTold (S.left source.old) result }
+    ensures link_cause { result ≡ Ending.LinkFault → Rose (B.means.counts board.old).link_faults (B.means.counts board.new).link_faults }
+    ensures source_cause { result ≡ Ending.SourceFault → Rose (S.means.faults source.old) (S.means.faults source.new) }
+    ensures no_fault { (¬ (result ≡ Ending.LinkFault) → (B.means.counts board.new).link_faults ≡ (B.means.counts board.old).link_faults)
+        × (¬ (result ≡ Ending.SourceFault) → S.means.faults source.new ≡ S.means.faults source.old) }
+    ensures complete { AreFresh (texts_of words.now) → IsTrue (S.means.tells source.old)
+        → ¬ (Rose (B.means.counts board.old).link_faults (B.means.counts board.new).link_faults) → ¬ (Rose (S.means.faults source.old) (S.means.faults source.new))
+        → EndsAsTold (S.means.left source.old) result }
 
     // What no session changes.
-    ensures same { (B.device board.new ≡ B.device board.old) × (S.tells source.new ≡ S.tells source.old) }
-    ensures faults { ((B.counts board.old).link_faults ≤ (B.counts board.new).link_faults) × (S.faults source.old ≤ S.faults source.new) }
+    ensures same { (B.means.device board.new ≡ B.means.device board.old) × (S.means.tells source.new ≡ S.means.tells source.old) }
+    ensures faults { ((B.means.counts board.old).link_faults ≤ (B.means.counts board.new).link_faults) × (S.means.faults source.old ≤ S.means.faults source.new) }
 {
     if !are_fresh(words) {
         return Ending::BadWords;

@@ -6,7 +6,7 @@ use Rattle.std.proofs.lemmas.List.{length-append, length_push, take_all, take-ap
 use Rattle.std.proofs.lemmas.List.Sums.{sum_by-append, sum_by-take-le}
 use Rattle.board.specs.Moments.{GainsFront, IsPrefixOf, SendsOnly}
 use Rattle.board.proofs.Runs.{gains_none}
-use Rattle.trials.specs.HalfBoard.{moment_of, sent_at}
+use Rattle.trials.specs.HalfBoard.{half_means, moment_of, sent_at}
 use Rattle.trials.specs.declared.half_board.HalfBoard.{HalfBoard}
 
 sum-push : (steps : List ℕ) (step : ℕ) → sum (steps ++ step ∷ []) ≡ sum steps + step
@@ -52,7 +52,7 @@ module _ (old new : HalfBoard) (bytes part : List ℕ) (is : sum old.steps.items
   gains : {octets then : List ℕ} → octets ≡ then → GainsFront (sent_at old (moment_of old)) bytes then → GainsFront (sent_at old (moment_of old)) bytes octets
   gains same known = subst (λ (xs : List ℕ). GainsFront (sent_at old (moment_of old)) bytes xs) (sym same) known
 
-  pub moments_step : IsPrefixOf part bytes → SendsOnly moment_of sent_at old new (GainsFront (sent_at old (moment_of old)) bytes)
+  pub moments_step : IsPrefixOf part bytes → SendsOnly half_means old new (GainsFront (sent_at old (moment_of old)) bytes)
   moments_step prefix = record {
     later = omega (arith, long);
     each = λ t from to. elim (cases_eq t (moment_of old)) [

@@ -3,6 +3,7 @@ use Rattle.std.specs.Prelude.{◌≡◌, ◌⊎◌, ◌+◌, ◌++◌, ℕ, Bool
 use Rattle.board.specs.Counts.{Counts}
 use Rattle.board.specs.Device.{Device}
 use Rattle.board.specs.Flash.{Flash}
+use Rattle.board.specs.Meaning.{BoardMeaning}
 use Rattle.trials.specs.Half.{half_of}
 use Rattle.trials.specs.declared.half_board.HalfBoard.{HalfBoard}
 
@@ -27,6 +28,17 @@ sent_at board t = take (sum (take t board.steps.items)) board.sent.items
 -- how often flash and link have failed; no flash call does any work
 abbrev pub counts_of : HalfBoard → Counts
 counts_of board = record { flash_faults = board.flash_faults; link_faults = board.link_faults; reads = 0; programs = 0; erases = 0 }
+
+-- all of it as one value
+abbrev pub half_means : BoardMeaning HalfBoard
+half_means = record {
+  device = device_of;
+  flash = flash_of;
+  moment = moment_of;
+  images = image_at;
+  sent = sent_at;
+  counts = counts_of;
+}
 
 -- how many sends there were, those that failed among them
 abbrev pub sends_made : HalfBoard → ℕ

@@ -1,5 +1,6 @@
 -- What a text that comes in short pieces means, and what its calls change.
 use Rattle.std.specs.Prelude.{◌≡◌, ◌+◌, ℕ, Bool, true, List, Option, None, drop, min}
+use Rattle.board.specs.Meaning.{SourceMeaning}
 use Rattle.trials.specs.declared.short_source.ShortSource.{ShortSource}
 
 -- it tells what is left
@@ -25,6 +26,10 @@ planned_take source = source.planned
 -- how often it has failed
 abbrev pub faults_of : ShortSource → ℕ
 faults_of source = source.faults
+
+-- all of it as one value
+abbrev pub short_means : SourceMeaning ShortSource
+short_means = record { tells = tells_left; left = left_of; faults = faults_of }
 
 -- A text of which nothing was taken.
 pub record IsNewSource (bytes : List ℕ) (at_most : ℕ) (source : ShortSource) : Type 0 where

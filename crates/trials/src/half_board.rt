@@ -104,19 +104,9 @@ impl Board for HalfBoard {
     ghost use Rattle.board.specs.Counts.{Sends};
     ghost use Rattle.board.specs.Flash.{IsImage};
     ghost use Rattle.board.specs.Moments.{GainsFront, LeavesOnly, SendsOnly};
-    ghost use Rattle.trials.specs.HalfBoard.{CountsSend, SendFails, SendSucceeds, counts_of, device_of, flash_of, image_at, moment_of, sent_at};
+    ghost use Rattle.trials.specs.HalfBoard.{CountsSend, SendFails, SendSucceeds, counts_of, device_of, flash_of, half_means, image_at, moment_of, sent_at};
 
-    ghost device = { device_of };
-
-    ghost flash = { flash_of };
-
-    ghost moment = { moment_of };
-
-    ghost images = { image_at };
-
-    ghost sent = { sent_at };
-
-    ghost counts = { counts_of };
+    ghost means = { half_means };
 
     ghost enough_blocks = { λ board. board.least };
 
@@ -156,7 +146,7 @@ impl Board for HalfBoard {
         ensures ok { OnOk result (IsTrue (device_of self.old).tells_link
             → sent_at self.new (moment_of self.new) ≡ sent_at self.old (moment_of self.old) ++ bytes.now) }
         ensures any_moment { IsTrue (device_of self.old).tells_link
-            → SendsOnly moment_of sent_at self.old self.new
+            → SendsOnly half_means self.old self.new
             (GainsFront (sent_at self.old (moment_of self.old)) bytes.now) }
         ensures later { IsTrue (device_of self.old).tells_link
             → (sent_at self.new (moment_of self.new) ≡ sent_at self.old (moment_of self.old))
@@ -166,7 +156,7 @@ impl Board for HalfBoard {
             → image_at self.old (moment_of self.old) (flash_of self.old).content
             → image_at self.new (moment_of self.new) (flash_of self.new).content }
         ensures leaves { IsTrue (device_of self.old).tells_flash
-            → LeavesOnly moment_of image_at self.old self.new
+            → LeavesOnly half_means self.old self.new
             (IsImage (device_of self.old).blocks (flash_of self.old)) }
         ensures same { device_of self.new ≡ device_of self.old }
         ensures work { Sends (counts_of self.old) (counts_of self.new) }

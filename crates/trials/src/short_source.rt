@@ -47,13 +47,9 @@ impl ShortSource {
 }
 
 impl Source for ShortSource {
-    ghost use Rattle.trials.specs.ShortSource.{CountsTake, faults_of, left_of, most_of, planned_take, takes_made, tells_left};
+    ghost use Rattle.trials.specs.ShortSource.{CountsTake, faults_of, left_of, most_of, planned_take, short_means, takes_made, tells_left};
 
-    ghost tells = { tells_left };
-
-    ghost left = { left_of };
-
-    ghost faults = { faults_of };
+    ghost means = { short_means };
 
     fn take(&mut self, into: &mut [u8]) -> Result<usize, Failed>
         requires { 0 < length into.old }

@@ -1,278 +1,150 @@
-use Rattle.std.proofs.Common.{◌≡◌, ◌⊎◌, inl, inr, ℕ, ◌+◌, ◌*◌, ◌≤◌, [], ◌∷◌, ◌++◌, length, sym, ◌∙◌, ap, subst, arith}
-use Rattle.board.specs.Flash.{Flash, firm, only_page, written}
+use Rattle.std.proofs.Common.{◌≡◌, ◌⊎◌, inl, inr, ℕ, ◌+◌, ◌*◌, ◌≤◌, List, [], ◌∷◌, ◌++◌, length, sym, ◌∙◌, subst, arith}
+use Rattle.std.specs.Prelude.{IsTrue}
+use Rattle.board.specs.Flash.{Flash}
 use Rattle.board.proofs.Runs.{links_too, sends_nothing_on}
-use Rattle.board.proofs.Works.{tells_too}
 use Rattle.commit_gate.specs.Entries.{open_page, payload_pages}
-use Rattle.commit_gate.specs.Commits.{Stands, with_payload}
+use Rattle.commit_gate.specs.Commits.{Stands}
 use Rattle.commit_gate.proofs.Images.{entry_stands}
+use Rattle.commit_gate.proofs.Stages.{Leaves, Ready}
 use Rattle.commit_gate.proofs.Stages as stages
+use Rattle.commit_gate.proofs.gate.append.Given.{Over}
 use Rattle.commit_gate.proofs.gate.append.Goals as goal
+use Rattle.commit_gate.proofs.gate.append.Goals.{After-write_text, After-barrier, After-program, After-barrier-2}
 
 -- the area lies on the device
 area_fits : (first blocks : ℕ) → (first ≡ 3) ⊎ (first ≡ 5) → 16 ≤ blocks → 256 * first + 512 ≤ 256 * blocks
 area_fits first blocks (inl three) enough = omega arith
 area_fits first blocks (inr five) enough = omega arith
 
+-- the entry fits, and its pages are clean
+ready : (g : Over) (c : After-write_text g) → IsTrue (g.B.Board.means.device c.args.board.now).tells_flash
+    → Ready g.B.Board.means c.args.board.now (256 * c.args.area.first) c.args.at c.args.entry.now
+ready g c told =
+    let old = c.args.board.now in
+    record {
+      told = told;
+      shortest = c.requires.shortest;
+      longest = c.requires.longest;
+      room = c.requires.room;
+      fits = area_fits c.args.area.first (g.B.Board.means.device old).blocks c.requires.first (g.met.B.Board.enough_blocks old);
+      clean = c.requires.clean told;
+      erased_blank = λ p. g.met.B.Board.erased_blank old p told;
+    }
+
+-- what stops leave where the payload failed, its barrier, the gate, and the last barrier or none of them
+payload_left : {start : ℕ} {entries : List (List ℕ)} (g : Over) (c : After-write_text g)
+    → Ready g.B.Board.means c.args.board.now (256 * c.args.area.first) c.args.at c.args.entry.now
+    → Stands (g.B.Board.means.flash c.args.board.now) (256 * c.args.area.first) start entries c.args.at
+    → Leaves g.B.Board.means c.args.board.now (256 * c.args.area.first) c.args.at c.args.entry.now start entries c.write_text.new.board
+payload_left g c has stands =
+    stages.ends_in_payload has stands c.write_text.new.board (c.write_text.ensures.leaves has.told)
+
+barrier_left : {start : ℕ} {entries : List (List ℕ)} (g : Over) (c : After-barrier g)
+    → Ready g.B.Board.means c.args.board.now (256 * c.args.area.first) c.args.at c.args.entry.now
+    → Stands (g.B.Board.means.flash c.args.board.now) (256 * c.args.area.first) start entries c.args.at
+    → Leaves g.B.Board.means c.args.board.now (256 * c.args.area.first) c.args.at c.args.entry.now start entries c.barrier.new.self
+barrier_left g c has stands =
+    stages.ends_in_barrier has stands c.write_text.new.board (c.write_text.ensures.leaves has.told)
+    c.barrier.new.self c.write_text.ensures.same (c.in_ok-write_text.ensures.ok has.told) c.barrier.ensures.leaves
+
+gate_left : {start : ℕ} {entries : List (List ℕ)} (g : Over) (c : After-program g)
+    → Ready g.B.Board.means c.args.board.now (256 * c.args.area.first) c.args.at c.args.entry.now
+    → Stands (g.B.Board.means.flash c.args.board.now) (256 * c.args.area.first) start entries c.args.at
+    → Leaves g.B.Board.means c.args.board.now (256 * c.args.area.first) c.args.at c.args.entry.now start entries c.program.new.board
+gate_left g c has stands =
+    stages.ends_in_gate has stands c.write_text.new.board (c.write_text.ensures.leaves has.told)
+    c.barrier.new.self c.write_text.ensures.same (c.in_ok-write_text.ensures.ok has.told) c.barrier.ensures.leaves
+    c.program.new.board c.barrier.ensures.same c.in_ok-barrier.ensures.ok c.program.ensures.leaves
+
+end_left : {start : ℕ} {entries : List (List ℕ)} (g : Over) (c : After-barrier-2 g)
+    → Ready g.B.Board.means c.args.board.now (256 * c.args.area.first) c.args.at c.args.entry.now
+    → Stands (g.B.Board.means.flash c.args.board.now) (256 * c.args.area.first) start entries c.args.at
+    → Leaves g.B.Board.means c.args.board.now (256 * c.args.area.first) c.args.at c.args.entry.now start entries c.barrier-2.new.self
+unfolding open_page
+end_left g c has stands =
+    stages.ends_in_last_barrier has stands c.write_text.new.board (c.write_text.ensures.leaves has.told)
+    c.barrier.new.self c.write_text.ensures.same (c.in_ok-write_text.ensures.ok has.told) c.barrier.ensures.leaves
+    c.program.new.board c.barrier.ensures.same c.in_ok-barrier.ensures.ok c.program.ensures.leaves
+    c.barrier-2.new.self c.program.ensures.same c.in_ok-program.ensures.ok c.barrier-2.ensures.leaves
+
 -- the images at each moment
 
 pub returns-in_err-write_text-clause-any_moment : goal.returns-in_err-write_text-clause-any_moment
 returns-in_err-write_text-clause-any_moment g c told start entries stands =
-    let board = g.B.Board in
-    let old = c.args.board.now in
-    let base = 256 * c.args.area.first in
-    let at = c.args.at in
-    let entry = c.args.entry.now in
-    let fits = area_fits c.args.area.first (board.device old).blocks c.requires.first (g.met.B.Board.enough_blocks old) in
-    let erased_blank = λ (p : ℕ). g.met.B.Board.erased_blank old p told in
-    let a = c.write_text.new.board in
-    let payload = c.write_text.ensures.leaves told in
-    stages.before_moments board.device board.flash board.moment board.images old told base at entry c.requires.shortest c.requires.longest c.requires.room fits (c.requires.clean told) erased_blank start entries stands a (stages.payload_leaves board.device board.flash board.moment board.images old told base at entry c.requires.shortest c.requires.longest c.requires.room fits (c.requires.clean told) erased_blank start entries stands a payload)
+    let at = goal.at.returns-in_err-write_text-clause-any_moment g c in
+    (payload_left g at.After-write_text (ready g at.After-write_text told) stands).any_moment
 
 pub returns-in_err-barrier-clause-any_moment : goal.returns-in_err-barrier-clause-any_moment
 returns-in_err-barrier-clause-any_moment g c told start entries stands =
-    let board = g.B.Board in
-    let old = c.args.board.now in
-    let base = 256 * c.args.area.first in
-    let at = c.args.at in
-    let entry = c.args.entry.now in
-    let fits = area_fits c.args.area.first (board.device old).blocks c.requires.first (g.met.B.Board.enough_blocks old) in
-    let erased_blank = λ (p : ℕ). g.met.B.Board.erased_blank old p told in
-    let a = c.write_text.new.board in
-    let payload = c.write_text.ensures.leaves told in
-    let told_a = tells_too c.write_text.ensures.same told in
-    let payload_is : board.flash a ≡ with_payload base at entry (board.flash old) = c.in_ok-write_text.ensures.ok told in
-    let b = c.barrier.new.self in
-    let is_firm = stages.firm_leaves board.device board.flash board.moment board.images old told base at entry c.requires.shortest c.requires.longest c.requires.room fits (c.requires.clean told) erased_blank start entries stands a b payload c.write_text.ensures.same payload_is c.barrier.ensures.leaves in
-    stages.before_moments board.device board.flash board.moment board.images old told base at entry c.requires.shortest c.requires.longest c.requires.room fits (c.requires.clean told) erased_blank start entries stands b is_firm
+    let at = goal.at.returns-in_err-barrier-clause-any_moment g c in
+    (barrier_left g at.After-barrier (ready g at.After-write_text told) stands).any_moment
 
 pub returns-in_err-program-clause-any_moment : goal.returns-in_err-program-clause-any_moment
 returns-in_err-program-clause-any_moment g c told start entries stands =
-    let board = g.B.Board in
-    let old = c.args.board.now in
-    let base = 256 * c.args.area.first in
-    let at = c.args.at in
-    let entry = c.args.entry.now in
-    let fits = area_fits c.args.area.first (board.device old).blocks c.requires.first (g.met.B.Board.enough_blocks old) in
-    let erased_blank = λ (p : ℕ). g.met.B.Board.erased_blank old p told in
-    let a = c.write_text.new.board in
-    let payload = c.write_text.ensures.leaves told in
-    let told_a = tells_too c.write_text.ensures.same told in
-    let payload_is : board.flash a ≡ with_payload base at entry (board.flash old) = c.in_ok-write_text.ensures.ok told in
-    let b = c.barrier.new.self in
-    let is_firm = stages.firm_leaves board.device board.flash board.moment board.images old told base at entry c.requires.shortest c.requires.longest c.requires.room fits (c.requires.clean told) erased_blank start entries stands a b payload c.write_text.ensures.same payload_is c.barrier.ensures.leaves in
-    let same_b = c.barrier.ensures.same ∙ c.write_text.ensures.same in
-    let told_b = tells_too same_b told in
-    let firm_is : board.flash b ≡ firm (with_payload base at entry (board.flash old)) = c.in_ok-barrier.ensures.ok told_a ∙ ap firm payload_is in
-    let d = c.program.new.board in
-    let gate = stages.gate_leaves board.device board.flash board.moment board.images old told base at entry c.requires.shortest c.requires.longest c.requires.room fits (c.requires.clean told) erased_blank start entries stands b d same_b firm_is c.program.ensures.leaves in
-    stages.all_moments board.device board.flash board.moment board.images old told base at entry c.requires.shortest c.requires.longest c.requires.room fits (c.requires.clean told) erased_blank start entries stands b d is_firm gate
+    let at = goal.at.returns-in_err-program-clause-any_moment g c in
+    (gate_left g at.After-program (ready g at.After-write_text told) stands).any_moment
 
 pub returns-in_err-barrier-2-clause-any_moment : goal.returns-in_err-barrier-2-clause-any_moment
-unfolding open_page
 returns-in_err-barrier-2-clause-any_moment g c told start entries stands =
-    let board = g.B.Board in
-    let old = c.args.board.now in
-    let base = 256 * c.args.area.first in
-    let at = c.args.at in
-    let entry = c.args.entry.now in
-    let fits = area_fits c.args.area.first (board.device old).blocks c.requires.first (g.met.B.Board.enough_blocks old) in
-    let erased_blank = λ (p : ℕ). g.met.B.Board.erased_blank old p told in
-    let a = c.write_text.new.board in
-    let payload = c.write_text.ensures.leaves told in
-    let told_a = tells_too c.write_text.ensures.same told in
-    let payload_is : board.flash a ≡ with_payload base at entry (board.flash old) = c.in_ok-write_text.ensures.ok told in
-    let b = c.barrier.new.self in
-    let is_firm = stages.firm_leaves board.device board.flash board.moment board.images old told base at entry c.requires.shortest c.requires.longest c.requires.room fits (c.requires.clean told) erased_blank start entries stands a b payload c.write_text.ensures.same payload_is c.barrier.ensures.leaves in
-    let same_b = c.barrier.ensures.same ∙ c.write_text.ensures.same in
-    let told_b = tells_too same_b told in
-    let firm_is : board.flash b ≡ firm (with_payload base at entry (board.flash old)) = c.in_ok-barrier.ensures.ok told_a ∙ ap firm payload_is in
-    let d = c.program.new.board in
-    let gate = stages.gate_leaves board.device board.flash board.moment board.images old told base at entry c.requires.shortest c.requires.longest c.requires.room fits (c.requires.clean told) erased_blank start entries stands b d same_b firm_is c.program.ensures.leaves in
-    let same_d = c.program.ensures.same ∙ same_b in
-    let gate_is : board.flash d ≡ written (only_page (base + at)) (λ _. open_page) (firm (with_payload base at entry (board.flash old))) =
-    c.in_ok-program.ensures.ok told_b ∙ ap (written (only_page (base + at)) (λ _. open_page)) firm_is in
-    let e = c.barrier-2.new.self in
-    let ended = stages.last_leaves board.device board.flash board.moment board.images old told base at entry c.requires.shortest c.requires.longest c.requires.room fits (c.requires.clean told) erased_blank start entries stands b d e gate same_d gate_is c.barrier-2.ensures.leaves in
-    stages.all_moments board.device board.flash board.moment board.images old told base at entry c.requires.shortest c.requires.longest c.requires.room fits (c.requires.clean told) erased_blank start entries stands b e is_firm ended
+    let at = goal.at.returns-in_err-barrier-2-clause-any_moment g c in
+    (end_left g at.After-barrier-2 (ready g at.After-write_text told) stands).any_moment
 
 pub returns-clause-any_moment : goal.returns-clause-any_moment
-unfolding open_page
 returns-clause-any_moment g c told start entries stands =
-    let board = g.B.Board in
-    let old = c.args.board.now in
-    let base = 256 * c.args.area.first in
-    let at = c.args.at in
-    let entry = c.args.entry.now in
-    let fits = area_fits c.args.area.first (board.device old).blocks c.requires.first (g.met.B.Board.enough_blocks old) in
-    let erased_blank = λ (p : ℕ). g.met.B.Board.erased_blank old p told in
-    let a = c.write_text.new.board in
-    let payload = c.write_text.ensures.leaves told in
-    let told_a = tells_too c.write_text.ensures.same told in
-    let payload_is : board.flash a ≡ with_payload base at entry (board.flash old) = c.in_ok-write_text.ensures.ok told in
-    let b = c.barrier.new.self in
-    let is_firm = stages.firm_leaves board.device board.flash board.moment board.images old told base at entry c.requires.shortest c.requires.longest c.requires.room fits (c.requires.clean told) erased_blank start entries stands a b payload c.write_text.ensures.same payload_is c.barrier.ensures.leaves in
-    let same_b = c.barrier.ensures.same ∙ c.write_text.ensures.same in
-    let told_b = tells_too same_b told in
-    let firm_is : board.flash b ≡ firm (with_payload base at entry (board.flash old)) = c.in_ok-barrier.ensures.ok told_a ∙ ap firm payload_is in
-    let d = c.program.new.board in
-    let gate = stages.gate_leaves board.device board.flash board.moment board.images old told base at entry c.requires.shortest c.requires.longest c.requires.room fits (c.requires.clean told) erased_blank start entries stands b d same_b firm_is c.program.ensures.leaves in
-    let same_d = c.program.ensures.same ∙ same_b in
-    let gate_is : board.flash d ≡ written (only_page (base + at)) (λ _. open_page) (firm (with_payload base at entry (board.flash old))) =
-    c.in_ok-program.ensures.ok told_b ∙ ap (written (only_page (base + at)) (λ _. open_page)) firm_is in
-    let e = c.barrier-2.new.self in
-    let ended = stages.last_leaves board.device board.flash board.moment board.images old told base at entry c.requires.shortest c.requires.longest c.requires.room fits (c.requires.clean told) erased_blank start entries stands b d e gate same_d gate_is c.barrier-2.ensures.leaves in
-    stages.all_moments board.device board.flash board.moment board.images old told base at entry c.requires.shortest c.requires.longest c.requires.room fits (c.requires.clean told) erased_blank start entries stands b e is_firm ended
+    let at = goal.at.returns-clause-any_moment g c in
+    (end_left g at.After-barrier-2 (ready g at.After-write_text told) stands).any_moment
 
 -- the moments in their turns
 
 pub returns-in_err-write_text-clause-in_turn : goal.returns-in_err-write_text-clause-in_turn
 returns-in_err-write_text-clause-in_turn g c told start entries stands =
-    let board = g.B.Board in
-    let old = c.args.board.now in
-    let base = 256 * c.args.area.first in
-    let at = c.args.at in
-    let entry = c.args.entry.now in
-    let fits = area_fits c.args.area.first (board.device old).blocks c.requires.first (g.met.B.Board.enough_blocks old) in
-    let erased_blank = λ (p : ℕ). g.met.B.Board.erased_blank old p told in
-    let a = c.write_text.new.board in
-    let payload = c.write_text.ensures.leaves told in
-    stages.before_turn board.device board.flash board.moment board.images old told base at entry c.requires.shortest c.requires.longest c.requires.room fits (c.requires.clean told) erased_blank start entries stands a (stages.payload_leaves board.device board.flash board.moment board.images old told base at entry c.requires.shortest c.requires.longest c.requires.room fits (c.requires.clean told) erased_blank start entries stands a payload)
+    let at = goal.at.returns-in_err-write_text-clause-in_turn g c in
+    (payload_left g at.After-write_text (ready g at.After-write_text told) stands).turns
 
 pub returns-in_err-barrier-clause-in_turn : goal.returns-in_err-barrier-clause-in_turn
 returns-in_err-barrier-clause-in_turn g c told start entries stands =
-    let board = g.B.Board in
-    let old = c.args.board.now in
-    let base = 256 * c.args.area.first in
-    let at = c.args.at in
-    let entry = c.args.entry.now in
-    let fits = area_fits c.args.area.first (board.device old).blocks c.requires.first (g.met.B.Board.enough_blocks old) in
-    let erased_blank = λ (p : ℕ). g.met.B.Board.erased_blank old p told in
-    let a = c.write_text.new.board in
-    let payload = c.write_text.ensures.leaves told in
-    let told_a = tells_too c.write_text.ensures.same told in
-    let payload_is : board.flash a ≡ with_payload base at entry (board.flash old) = c.in_ok-write_text.ensures.ok told in
-    let b = c.barrier.new.self in
-    let is_firm = stages.firm_leaves board.device board.flash board.moment board.images old told base at entry c.requires.shortest c.requires.longest c.requires.room fits (c.requires.clean told) erased_blank start entries stands a b payload c.write_text.ensures.same payload_is c.barrier.ensures.leaves in
-    stages.before_turn board.device board.flash board.moment board.images old told base at entry c.requires.shortest c.requires.longest c.requires.room fits (c.requires.clean told) erased_blank start entries stands b is_firm
+    let at = goal.at.returns-in_err-barrier-clause-in_turn g c in
+    (barrier_left g at.After-barrier (ready g at.After-write_text told) stands).turns
 
 pub returns-in_err-program-clause-in_turn : goal.returns-in_err-program-clause-in_turn
 returns-in_err-program-clause-in_turn g c told start entries stands =
-    let board = g.B.Board in
-    let old = c.args.board.now in
-    let base = 256 * c.args.area.first in
-    let at = c.args.at in
-    let entry = c.args.entry.now in
-    let fits = area_fits c.args.area.first (board.device old).blocks c.requires.first (g.met.B.Board.enough_blocks old) in
-    let erased_blank = λ (p : ℕ). g.met.B.Board.erased_blank old p told in
-    let a = c.write_text.new.board in
-    let payload = c.write_text.ensures.leaves told in
-    let told_a = tells_too c.write_text.ensures.same told in
-    let payload_is : board.flash a ≡ with_payload base at entry (board.flash old) = c.in_ok-write_text.ensures.ok told in
-    let b = c.barrier.new.self in
-    let is_firm = stages.firm_leaves board.device board.flash board.moment board.images old told base at entry c.requires.shortest c.requires.longest c.requires.room fits (c.requires.clean told) erased_blank start entries stands a b payload c.write_text.ensures.same payload_is c.barrier.ensures.leaves in
-    let same_b = c.barrier.ensures.same ∙ c.write_text.ensures.same in
-    let told_b = tells_too same_b told in
-    let firm_is : board.flash b ≡ firm (with_payload base at entry (board.flash old)) = c.in_ok-barrier.ensures.ok told_a ∙ ap firm payload_is in
-    let d = c.program.new.board in
-    let gate = stages.gate_leaves board.device board.flash board.moment board.images old told base at entry c.requires.shortest c.requires.longest c.requires.room fits (c.requires.clean told) erased_blank start entries stands b d same_b firm_is c.program.ensures.leaves in
-    stages.both_turns board.device board.flash board.moment board.images old told base at entry c.requires.shortest c.requires.longest c.requires.room fits (c.requires.clean told) erased_blank start entries stands b d is_firm gate
+    let at = goal.at.returns-in_err-program-clause-in_turn g c in
+    (gate_left g at.After-program (ready g at.After-write_text told) stands).turns
 
 pub returns-in_err-barrier-2-clause-in_turn : goal.returns-in_err-barrier-2-clause-in_turn
-unfolding open_page
 returns-in_err-barrier-2-clause-in_turn g c told start entries stands =
-    let board = g.B.Board in
-    let old = c.args.board.now in
-    let base = 256 * c.args.area.first in
-    let at = c.args.at in
-    let entry = c.args.entry.now in
-    let fits = area_fits c.args.area.first (board.device old).blocks c.requires.first (g.met.B.Board.enough_blocks old) in
-    let erased_blank = λ (p : ℕ). g.met.B.Board.erased_blank old p told in
-    let a = c.write_text.new.board in
-    let payload = c.write_text.ensures.leaves told in
-    let told_a = tells_too c.write_text.ensures.same told in
-    let payload_is : board.flash a ≡ with_payload base at entry (board.flash old) = c.in_ok-write_text.ensures.ok told in
-    let b = c.barrier.new.self in
-    let is_firm = stages.firm_leaves board.device board.flash board.moment board.images old told base at entry c.requires.shortest c.requires.longest c.requires.room fits (c.requires.clean told) erased_blank start entries stands a b payload c.write_text.ensures.same payload_is c.barrier.ensures.leaves in
-    let same_b = c.barrier.ensures.same ∙ c.write_text.ensures.same in
-    let told_b = tells_too same_b told in
-    let firm_is : board.flash b ≡ firm (with_payload base at entry (board.flash old)) = c.in_ok-barrier.ensures.ok told_a ∙ ap firm payload_is in
-    let d = c.program.new.board in
-    let gate = stages.gate_leaves board.device board.flash board.moment board.images old told base at entry c.requires.shortest c.requires.longest c.requires.room fits (c.requires.clean told) erased_blank start entries stands b d same_b firm_is c.program.ensures.leaves in
-    let same_d = c.program.ensures.same ∙ same_b in
-    let gate_is : board.flash d ≡ written (only_page (base + at)) (λ _. open_page) (firm (with_payload base at entry (board.flash old))) =
-    c.in_ok-program.ensures.ok told_b ∙ ap (written (only_page (base + at)) (λ _. open_page)) firm_is in
-    let e = c.barrier-2.new.self in
-    let ended = stages.last_leaves board.device board.flash board.moment board.images old told base at entry c.requires.shortest c.requires.longest c.requires.room fits (c.requires.clean told) erased_blank start entries stands b d e gate same_d gate_is c.barrier-2.ensures.leaves in
-    stages.both_turns board.device board.flash board.moment board.images old told base at entry c.requires.shortest c.requires.longest c.requires.room fits (c.requires.clean told) erased_blank start entries stands b e is_firm ended
+    let at = goal.at.returns-in_err-barrier-2-clause-in_turn g c in
+    (end_left g at.After-barrier-2 (ready g at.After-write_text told) stands).turns
 
 pub returns-clause-in_turn : goal.returns-clause-in_turn
-unfolding open_page
 returns-clause-in_turn g c told start entries stands =
-    let board = g.B.Board in
-    let old = c.args.board.now in
-    let base = 256 * c.args.area.first in
-    let at = c.args.at in
-    let entry = c.args.entry.now in
-    let fits = area_fits c.args.area.first (board.device old).blocks c.requires.first (g.met.B.Board.enough_blocks old) in
-    let erased_blank = λ (p : ℕ). g.met.B.Board.erased_blank old p told in
-    let a = c.write_text.new.board in
-    let payload = c.write_text.ensures.leaves told in
-    let told_a = tells_too c.write_text.ensures.same told in
-    let payload_is : board.flash a ≡ with_payload base at entry (board.flash old) = c.in_ok-write_text.ensures.ok told in
-    let b = c.barrier.new.self in
-    let is_firm = stages.firm_leaves board.device board.flash board.moment board.images old told base at entry c.requires.shortest c.requires.longest c.requires.room fits (c.requires.clean told) erased_blank start entries stands a b payload c.write_text.ensures.same payload_is c.barrier.ensures.leaves in
-    let same_b = c.barrier.ensures.same ∙ c.write_text.ensures.same in
-    let told_b = tells_too same_b told in
-    let firm_is : board.flash b ≡ firm (with_payload base at entry (board.flash old)) = c.in_ok-barrier.ensures.ok told_a ∙ ap firm payload_is in
-    let d = c.program.new.board in
-    let gate = stages.gate_leaves board.device board.flash board.moment board.images old told base at entry c.requires.shortest c.requires.longest c.requires.room fits (c.requires.clean told) erased_blank start entries stands b d same_b firm_is c.program.ensures.leaves in
-    let same_d = c.program.ensures.same ∙ same_b in
-    let gate_is : board.flash d ≡ written (only_page (base + at)) (λ _. open_page) (firm (with_payload base at entry (board.flash old))) =
-    c.in_ok-program.ensures.ok told_b ∙ ap (written (only_page (base + at)) (λ _. open_page)) firm_is in
-    let e = c.barrier-2.new.self in
-    let ended = stages.last_leaves board.device board.flash board.moment board.images old told base at entry c.requires.shortest c.requires.longest c.requires.room fits (c.requires.clean told) erased_blank start entries stands b d e gate same_d gate_is c.barrier-2.ensures.leaves in
-    stages.both_turns board.device board.flash board.moment board.images old told base at entry c.requires.shortest c.requires.longest c.requires.room fits (c.requires.clean told) erased_blank start entries stands b e is_firm ended
+    let at = goal.at.returns-clause-in_turn g c in
+    (end_left g at.After-barrier-2 (ready g at.After-write_text told) stands).turns
 
 -- the flash in the end
 pub returns-clause-flash : goal.returns-clause-flash
 unfolding open_page
 returns-clause-flash g c told =
-    let board = g.B.Board in
-    let old = c.args.board.now in
-    let base = 256 * c.args.area.first in
-    let at = c.args.at in
-    let entry = c.args.entry.now in
-    let a = c.write_text.new.board in
-    let told_a = tells_too c.write_text.ensures.same told in
-    let payload_is : board.flash a ≡ with_payload base at entry (board.flash old) = c.in_ok-write_text.ensures.ok told in
-    let b = c.barrier.new.self in
-    let same_b = c.barrier.ensures.same ∙ c.write_text.ensures.same in
-    let told_b = tells_too same_b told in
-    let firm_is : board.flash b ≡ firm (with_payload base at entry (board.flash old)) = c.in_ok-barrier.ensures.ok told_a ∙ ap firm payload_is in
-    let d = c.program.new.board in
-    let same_d = c.program.ensures.same ∙ same_b in
-    let gate_is : board.flash d ≡ written (only_page (base + at)) (λ _. open_page) (firm (with_payload base at entry (board.flash old))) =
-    c.in_ok-program.ensures.ok told_b ∙ ap (written (only_page (base + at)) (λ _. open_page)) firm_is in
-    let e = c.barrier-2.new.self in
-    c.in_ok-barrier-2.ensures.ok (tells_too same_d told) ∙ ap firm gate_is
+    stages.entry_is (ready g (goal.at.returns-clause-flash g c).After-write_text told)
+    c.write_text.new.board c.barrier.new.self c.program.new.board c.barrier-2.new.self
+    c.write_text.ensures.same (c.in_ok-write_text.ensures.ok told) c.barrier.ensures.same c.in_ok-barrier.ensures.ok
+    c.program.ensures.same c.in_ok-program.ensures.ok c.in_ok-barrier-2.ensures.ok
 
 pub returns-clause-stands : goal.returns-clause-stands
 returns-clause-stands g c told start entries stands =
-    let board = g.B.Board in
+    let means = g.B.Board.means in
     let old = c.args.board.now in
     let base = 256 * c.args.area.first in
-    let at = c.args.at in
     let entry = c.args.entry.now in
-    let fits = area_fits c.args.area.first (board.device old).blocks c.requires.first (g.met.B.Board.enough_blocks old) in
-    let erased_blank = λ (p : ℕ). g.met.B.Board.erased_blank old p told in
-    subst (λ (f : Flash). Stands f base start (entries ++ entry ∷ []) (at + 1 + payload_pages (length entry))) (sym (returns-clause-flash g c told))
-    (entry_stands (board.device old).blocks (board.flash old) base at entry c.requires.shortest c.requires.longest c.requires.room fits (c.requires.clean told) erased_blank start entries stands)
+    let has = ready g (goal.at.returns-clause-stands g c).After-write_text told in
+    subst (λ (f : Flash). Stands f base start (entries ++ entry ∷ []) (c.args.at + 1 + payload_pages (length entry))) (sym (returns-clause-flash g c told))
+    (entry_stands (means.device old).blocks (means.flash old) base c.args.at entry has.shortest has.longest has.room has.fits has.clean has.erased_blank start entries stands)
 
 -- nothing is sent
 pub returns-clause-unsent : goal.returns-clause-unsent
 returns-clause-unsent g c told =
-    let board = g.B.Board in
-    let on = sends_nothing_on board.moment board.sent in
+    let means = g.B.Board.means in
+    let on = sends_nothing_on means in
     let same_b = c.barrier.ensures.same ∙ c.write_text.ensures.same in
     let same_d = c.program.ensures.same ∙ same_b in
     on c.args.board.now c.program.new.board c.barrier-2.new.self

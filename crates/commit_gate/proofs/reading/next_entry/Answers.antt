@@ -10,18 +10,18 @@ use Rattle.commit_gate.proofs.reading.next_entry.Goals as goal
 -- no page is read, or none has a page behind it
 pub returns-then-at-gt510-clause-next : goal.returns-then-at-gt510-clause-next
 returns-then-at-gt510-clause-next g c told =
-    ends_here (area_of (256 * c.args.area.first) (g.B.Board.flash c.args.board.now).content) c.args.at (λ low. absurd (omega arith))
+    ends_here (area_of (256 * c.args.area.first) (g.B.Board.means.flash c.args.board.now).content) c.args.at (λ low. absurd (omega arith))
 
 pub returns-then-not-branch-clause-next : goal.returns-then-not-branch-clause-next
 returns-then-not-branch-clause-next g c told =
-    let area = area_of (256 * c.args.area.first) (g.B.Board.flash c.args.board.now).content in
+    let area = area_of (256 * c.args.area.first) (g.B.Board.means.flash c.args.board.now).content in
     at_shut area c.args.at (gate_is c.args.at (area c.args.at) false (omega arith) (sym c.if-not-branch.true ∙ c.in_ok-read_gate.ensures.shown told))
 
 -- the length behind an open gate
 pub returns-then-not-is_lawful-clause-next : goal.returns-then-not-is_lawful-clause-next
 returns-then-not-is_lawful-clause-next g c told =
-    let board = g.B.Board in
-    let area = area_of (256 * c.args.area.first) (board.flash c.args.board.now).content in
+    let means = g.B.Board.means in
+    let area = area_of (256 * c.args.area.first) (means.flash c.args.board.now).content in
     let told_a = tells_too c.read_gate.ensures.reads.same told in
     let opened = at_open area c.args.at (gate_is c.args.at (area c.args.at) true (omega arith) (sym c.if-not-branch.false ∙ c.in_ok-read_gate.ensures.shown told)) in
     let len = c.in_ok-length.length in
@@ -31,8 +31,8 @@ returns-then-not-is_lawful-clause-next g c told =
 
 pub returns-clause-next : goal.returns-clause-next
 returns-clause-next g c told =
-    let board = g.B.Board in
-    let area = area_of (256 * c.args.area.first) (board.flash c.args.board.now).content in
+    let means = g.B.Board.means in
+    let area = area_of (256 * c.args.area.first) (means.flash c.args.board.now).content in
     let told_a = tells_too c.read_gate.ensures.reads.same told in
     let opened = at_open area c.args.at (gate_is c.args.at (area c.args.at) true (omega arith) (sym c.if-not-branch.false ∙ c.in_ok-read_gate.ensures.shown told)) in
     let len = c.in_ok-length.length in
@@ -58,29 +58,29 @@ returns-clause-next g c told =
 -- the reads
 pub returns-then-at-gt510-clause-reads : goal.returns-then-at-gt510-clause-reads
 returns-then-at-gt510-clause-reads g c =
-    let board = g.B.Board in
+    let means = g.B.Board.means in
     let old = c.args.board.now in
-    reads_most board.device board.flash board.moment board.images board.sent board.counts old old (reads_none board.device board.flash board.moment board.images board.sent board.counts old (λ image told left. g.met.B.Board.images_now old image told left)) (omega arith)
+    reads_most means old old (reads_none means old (λ image told left. g.met.B.Board.images_now old image told left)) (omega arith)
 
 pub returns-then-not-is_lawful-clause-reads : goal.returns-then-not-is_lawful-clause-reads
 returns-then-not-is_lawful-clause-reads g c =
-    let board = g.B.Board in
+    let means = g.B.Board.means in
     let old = c.args.board.now in
-    let both = reads_on board.device board.flash board.moment board.images board.sent board.counts old c.read_gate.new.board c.read_length.new.board c.read_gate.ensures.reads c.read_length.ensures.reads in
-    reads_most board.device board.flash board.moment board.images board.sent board.counts old c.read_length.new.board both (omega arith)
+    let both = reads_on means old c.read_gate.new.board c.read_length.new.board c.read_gate.ensures.reads c.read_length.ensures.reads in
+    reads_most means old c.read_length.new.board both (omega arith)
 
 pub returns-in_err-read_rest-clause-reads : goal.returns-in_err-read_rest-clause-reads
 returns-in_err-read_rest-clause-reads g c =
-    let board = g.B.Board in
+    let means = g.B.Board.means in
     let old = c.args.board.now in
-    let both = reads_on board.device board.flash board.moment board.images board.sent board.counts old c.read_gate.new.board c.read_length.new.board c.read_gate.ensures.reads c.read_length.ensures.reads in
+    let both = reads_on means old c.read_gate.new.board c.read_length.new.board c.read_gate.ensures.reads c.read_length.ensures.reads in
     let fits = lawful_fits 5116 (c.args.at + 1) c.in_ok-length.length (sym c.is_lawful.ensures ∙ c.if-not-is_lawful.false) in
-    reads_most board.device board.flash board.moment board.images board.sent board.counts old c.read_rest.new.board (reads_on board.device board.flash board.moment board.images board.sent board.counts old c.read_length.new.board c.read_rest.new.board both c.read_rest.ensures.reads) (omega (arith, fits.1))
+    reads_most means old c.read_rest.new.board (reads_on means old c.read_length.new.board c.read_rest.new.board both c.read_rest.ensures.reads) (omega (arith, fits.1))
 
 pub returns-clause-reads : goal.returns-clause-reads
 returns-clause-reads g c =
-    let board = g.B.Board in
+    let means = g.B.Board.means in
     let old = c.args.board.now in
-    let both = reads_on board.device board.flash board.moment board.images board.sent board.counts old c.read_gate.new.board c.read_length.new.board c.read_gate.ensures.reads c.read_length.ensures.reads in
+    let both = reads_on means old c.read_gate.new.board c.read_length.new.board c.read_gate.ensures.reads c.read_length.ensures.reads in
     let fits = lawful_fits 5116 (c.args.at + 1) c.in_ok-length.length (sym c.is_lawful.ensures ∙ c.if-not-is_lawful.false) in
-    reads_most board.device board.flash board.moment board.images board.sent board.counts old c.read_rest.new.board (reads_on board.device board.flash board.moment board.images board.sent board.counts old c.read_length.new.board c.read_rest.new.board both c.read_rest.ensures.reads) (omega (arith, fits.1))
+    reads_most means old c.read_rest.new.board (reads_on means old c.read_length.new.board c.read_rest.new.board both c.read_rest.ensures.reads) (omega (arith, fits.1))

@@ -6,14 +6,14 @@ use Rattle.handler.proofs.handler.send_next.Goals as goal
 
 pub returns-in_err-octets-clause-breaks : goal.returns-in_err-octets-clause-breaks
 returns-in_err-octets-clause-breaks g c =
-    let board = g.B.Board in
+    let means = g.B.Board.means in
     on_err c.from_residual.result
     (λ (number : ℕ).
-    subst (λ (outputs : List Output). BreaksIn board.device board.moment board.sent board.counts c.args.board.now c.send.new.board outputs) (sym (c.in-Some.ensures.next number))
+    subst (λ (outputs : List Output). BreaksIn means c.args.board.now c.send.new.board outputs) (sym (c.in-Some.ensures.next number))
     (c.in_err-octets.ensures.breaks number Retrieved))
 
 pub returns-clause-sends : goal.returns-clause-sends
 returns-clause-sends g c number =
-    let board = g.B.Board in
-    subst (λ (outputs : List Output). SendsLines board.device board.moment board.sent board.counts c.args.board.now c.send.new.board outputs) (sym (c.in-Some.ensures.next number))
+    let means = g.B.Board.means in
+    subst (λ (outputs : List Output). SendsLines means c.args.board.now c.send.new.board outputs) (sym (c.in-Some.ensures.next number))
     (c.in_ok-octets.ensures.sends number Retrieved)

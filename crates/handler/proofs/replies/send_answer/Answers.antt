@@ -10,35 +10,35 @@ use Rattle.handler.proofs.replies.send_answer.Goals as goal
 
 pub returns-in_err-first-clause-breaks : goal.returns-in_err-first-clause-breaks
 returns-in_err-first-clause-breaks g c =
-    let board = g.B.Board in
+    let means = g.B.Board.means in
     on_err c.from_residual.result
     (λ (number : ℕ).
-    subst (λ (step : Step). BreaksIn board.device board.moment board.sent board.counts c.args.board.now c.send_verdicts.new.board step.outputs)
+    subst (λ (step : Step). BreaksIn means c.args.board.now c.send_verdicts.new.board step.outputs)
     (answered_in_parts number c.args.moment c.args.request (table_of c.args.table.now) _ _ c.args.decision.now c.as_slice.result.now c.args.decision.now.after.items c.as_slice.ensures.value refl c.args.table.now.counted refl refl)
-    (breaks_early board.device board.moment board.sent board.counts c.args.board.now c.send_verdicts.new.board _ _
-    (breaks_early board.device board.moment board.sent board.counts c.args.board.now c.send_verdicts.new.board _ _ (c.in_err-first.ensures.breaks number))))
+    (breaks_early means c.args.board.now c.send_verdicts.new.board _ _
+    (breaks_early means c.args.board.now c.send_verdicts.new.board _ _ (c.in_err-first.ensures.breaks number))))
 
 pub returns-in_err-content-clause-breaks : goal.returns-in_err-content-clause-breaks
 returns-in_err-content-clause-breaks g c =
-    let board = g.B.Board in
+    let means = g.B.Board.means in
     on_err c.from_residual-in_err-content.result
     (λ (number : ℕ).
-    subst (λ (step : Step). BreaksIn board.device board.moment board.sent board.counts c.args.board.now c.send_content.new.board step.outputs)
+    subst (λ (step : Step). BreaksIn means c.args.board.now c.send_content.new.board step.outputs)
     (answered_in_parts number c.args.moment c.args.request (table_of c.args.table.now) (table_of c.send_verdicts.new.table) _ c.args.decision.now c.as_slice.result.now c.args.decision.now.after.items
     c.as_slice.ensures.value refl c.args.table.now.counted (c.in_ok-first.ensures.table number) refl)
-    (breaks_early board.device board.moment board.sent board.counts c.args.board.now c.send_content.new.board _ _
-    (breaks_on board.device board.moment board.sent board.counts c.args.board.now c.send_verdicts.new.board c.send_content.new.board _ _ (c.in_ok-first.ensures.sends number) (c.in_err-content.ensures.breaks number))))
+    (breaks_early means c.args.board.now c.send_content.new.board _ _
+    (breaks_on means c.args.board.now c.send_verdicts.new.board c.send_content.new.board _ _ (c.in_ok-first.ensures.sends number) (c.in_err-content.ensures.breaks number))))
 
 pub returns-in_err-last-clause-breaks : goal.returns-in_err-last-clause-breaks
 returns-in_err-last-clause-breaks g c =
-    let board = g.B.Board in
+    let means = g.B.Board.means in
     on_err c.from_residual-in_err-last.result
     (λ (number : ℕ).
-    subst (λ (step : Step). BreaksIn board.device board.moment board.sent board.counts c.args.board.now c.send_verdicts-2.new.board step.outputs)
+    subst (λ (step : Step). BreaksIn means c.args.board.now c.send_verdicts-2.new.board step.outputs)
     (answered_in_parts number c.args.moment c.args.request (table_of c.args.table.now) (table_of c.send_verdicts.new.table) (table_of c.send_content.new.table) c.args.decision.now c.as_slice.result.now c.as_slice-2.result.now
     c.as_slice.ensures.value c.as_slice-2.ensures.value c.args.table.now.counted (c.in_ok-first.ensures.table number) (c.in_ok-content.ensures.table number))
-    (breaks_on board.device board.moment board.sent board.counts c.args.board.now c.send_content.new.board c.send_verdicts-2.new.board _ _
-    (lines_on board.device board.moment board.sent board.counts c.args.board.now c.send_verdicts.new.board c.send_content.new.board _ _ (c.in_ok-first.ensures.sends number) (c.in_ok-content.ensures.sends number))
+    (breaks_on means c.args.board.now c.send_content.new.board c.send_verdicts-2.new.board _ _
+    (lines_on means c.args.board.now c.send_verdicts.new.board c.send_content.new.board _ _ (c.in_ok-first.ensures.sends number) (c.in_ok-content.ensures.sends number))
     (c.in_err-last.ensures.breaks number)))
 
 pub returns-clause-table : goal.returns-clause-table
@@ -50,12 +50,12 @@ returns-clause-table g c number =
 
 pub returns-clause-sends : goal.returns-clause-sends
 returns-clause-sends g c number =
-    let board = g.B.Board in
-    subst (λ (step : Step). SendsLines board.device board.moment board.sent board.counts c.args.board.now c.send_verdicts-2.new.board step.outputs)
+    let means = g.B.Board.means in
+    subst (λ (step : Step). SendsLines means c.args.board.now c.send_verdicts-2.new.board step.outputs)
     (answered_in_parts number c.args.moment c.args.request (table_of c.args.table.now) (table_of c.send_verdicts.new.table) (table_of c.send_content.new.table) c.args.decision.now c.as_slice.result.now c.as_slice-2.result.now
     c.as_slice.ensures.value c.as_slice-2.ensures.value c.args.table.now.counted (c.in_ok-first.ensures.table number) (c.in_ok-content.ensures.table number))
-    (lines_on board.device board.moment board.sent board.counts c.args.board.now c.send_content.new.board c.send_verdicts-2.new.board _ _
-    (lines_on board.device board.moment board.sent board.counts c.args.board.now c.send_verdicts.new.board c.send_content.new.board _ _ (c.in_ok-first.ensures.sends number) (c.in_ok-content.ensures.sends number))
+    (lines_on means c.args.board.now c.send_content.new.board c.send_verdicts-2.new.board _ _
+    (lines_on means c.args.board.now c.send_verdicts.new.board c.send_content.new.board _ _ (c.in_ok-first.ensures.sends number) (c.in_ok-content.ensures.sends number))
     (c.in_ok-last.ensures.sends number))
 
 pub returns-clause-counted : goal.returns-clause-counted

@@ -15,24 +15,24 @@ use Rattle.handler.proofs.replies.send_content.Goals as goal
 
 pub returns-in_default-write_content-clause-sends : goal.returns-in_default-write_content-clause-sends
 returns-in_default-write_content-clause-sends g c number =
-    let board = g.B.Board in
-    subst (λ (reports : List Report). SendsLines board.device board.moment board.sent board.counts c.args.board.now c.args.board.now (replies_from number c.args.moment c.args.table.now.reports reports))
+    let means = g.B.Board.means in
+    subst (λ (reports : List Report). SendsLines means c.args.board.now c.args.board.now (replies_from number c.args.moment c.args.table.now.reports reports))
     (sym (ap (λ (asked : Option Items). content_asked asked (table_of c.args.table.now)) c.in-Some.is ∙ c.in_default-write_content.ensures.none))
-    (lines_none board.device board.moment board.sent board.counts c.args.board.now)
+    (lines_none means c.args.board.now)
 
 pub returns-in_err-octets-clause-breaks : goal.returns-in_err-octets-clause-breaks
 returns-in_err-octets-clause-breaks g c =
-    let board = g.B.Board in
+    let means = g.B.Board.means in
     on_err c.from_residual.result
     (λ (number : ℕ).
-    subst (λ (outputs : List Output). BreaksIn board.device board.moment board.sent board.counts c.args.board.now c.send_report.new.board outputs)
+    subst (λ (outputs : List Output). BreaksIn means c.args.board.now c.send_report.new.board outputs)
     (reply-held number c.args.moment c.count.result (table_of c.args.table.now) c.args.asked c.in-Some.items (written_in c.write_content.new.self) c.in-Some-write_content.length c.in-Some.is c.count.ensures.reports c.in-Some-write_content.ensures.some)
     (c.in_err-octets.ensures.breaks number))
 
 pub returns-clause-sends : goal.returns-clause-sends
 returns-clause-sends g c number =
-    let board = g.B.Board in
-    subst (λ (outputs : List Output). SendsLines board.device board.moment board.sent board.counts c.args.board.now c.send_report.new.board outputs)
+    let means = g.B.Board.means in
+    subst (λ (outputs : List Output). SendsLines means c.args.board.now c.send_report.new.board outputs)
     (reply-held number c.args.moment c.count.result (table_of c.args.table.now) c.args.asked c.in-Some.items (written_in c.write_content.new.self) c.in-Some-write_content.length c.in-Some.is c.count.ensures.reports c.in-Some-write_content.ensures.some)
     (c.in_ok-octets.ensures.sends number)
 

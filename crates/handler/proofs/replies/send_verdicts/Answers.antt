@@ -18,7 +18,7 @@ use Rattle.handler.proofs.replies.send_verdicts.Goals as goal
 
 pub returns-in_err-octets-clause-breaks : goal.returns-in_err-octets-clause-breaks
 returns-in_err-octets-clause-breaks g c =
-    let board = g.B.Board in
+    let means = g.B.Board.means in
     let so_far = c.loop-verdict.invariant in
     let at = c.loop-verdict.verdict-index in
     let first = c.args.table.now.reports in
@@ -26,18 +26,18 @@ returns-in_err-octets-clause-breaks g c =
     let count : c.count.result ≡ count_behind first at = c.count.ensures.reports ∙ ap (λ (t : Table). t.reports) so_far.table in
     on_err c.from_residual.result
     (λ (number : ℕ).
-    subst (λ (outputs : List Output). BreaksIn board.device board.moment board.sent board.counts c.args.board.now c.send_verdict.new.board outputs)
+    subst (λ (outputs : List Output). BreaksIn means c.args.board.now c.send_verdict.new.board outputs)
     (ap (λ (outputs : List Output). outputs ++ replies_from number c.args.moment (count_behind first (at + 1)) (map (verdict_report c.args.request) (drop (at + 1) verdicts)))
     (sym (replies-more number c.args.moment first c.args.request verdicts at c.args.table.now.counted (omega arith)))
     ∙ sym (replies-split number c.args.moment first c.args.request verdicts (at + 1) c.args.table.now.counted (omega arith)))
-    (breaks_early board.device board.moment board.sent board.counts c.args.board.now c.send_verdict.new.board _ (replies_from number c.args.moment (count_behind first (at + 1)) (map (verdict_report c.args.request) (drop (at + 1) verdicts)))
-    (breaks_on board.device board.moment board.sent board.counts c.args.board.now c.loop-verdict.board c.send_verdict.new.board _ (reply number c.args.moment (count_behind first at) (verdict_report c.args.request (get_or verdicts at Accepted)) ∷ [])
+    (breaks_early means c.args.board.now c.send_verdict.new.board _ (replies_from number c.args.moment (count_behind first (at + 1)) (map (verdict_report c.args.request) (drop (at + 1) verdicts)))
+    (breaks_on means c.args.board.now c.loop-verdict.board c.send_verdict.new.board _ (reply number c.args.moment (count_behind first at) (verdict_report c.args.request (get_or verdicts at Accepted)) ∷ [])
     (so_far.sends number)
-    (subst (λ (n : ℕ). BreaksIn board.device board.moment board.sent board.counts c.loop-verdict.board c.send_verdict.new.board (reply number c.args.moment n (verdict_report c.args.request (get_or verdicts at Accepted)) ∷ [])) count (c.in_err-octets.ensures.breaks number)))))
+    (subst (λ (n : ℕ). BreaksIn means c.loop-verdict.board c.send_verdict.new.board (reply number c.args.moment n (verdict_report c.args.request (get_or verdicts at Accepted)) ∷ [])) count (c.in_err-octets.ensures.breaks number)))))
 
 pub loop-verdict-preserved : goal.loop-verdict-preserved
 loop-verdict-preserved g c =
-    let board = g.B.Board in
+    let means = g.B.Board.means in
     let so_far = c.loop-verdict.invariant in
     let at = c.loop-verdict.verdict-index in
     let first = c.args.table.now.reports in
@@ -48,10 +48,10 @@ loop-verdict-preserved g c =
       table = c.report.ensures ∙ ap (λ (t : Table). record t { reports = count_behind t.reports 1 }) so_far.table
           ∙ ap (λ (n : ℕ). record (table_of c.args.table.now) { reports = n }) (count_behind-more first at 1);
       sends = λ number.
-          subst (λ (outputs : List Output). SendsLines board.device board.moment board.sent board.counts c.args.board.now c.send_verdict.new.board outputs) (sym (more number))
-          (lines_on board.device board.moment board.sent board.counts c.args.board.now c.loop-verdict.board c.send_verdict.new.board _ (reply number c.args.moment (count_behind first at) (verdict_report c.args.request (get_or verdicts at Accepted)) ∷ [])
+          subst (λ (outputs : List Output). SendsLines means c.args.board.now c.send_verdict.new.board outputs) (sym (more number))
+          (lines_on means c.args.board.now c.loop-verdict.board c.send_verdict.new.board _ (reply number c.args.moment (count_behind first at) (verdict_report c.args.request (get_or verdicts at Accepted)) ∷ [])
           (so_far.sends number)
-          (subst (λ (n : ℕ). SendsLines board.device board.moment board.sent board.counts c.loop-verdict.board c.send_verdict.new.board (reply number c.args.moment n (verdict_report c.args.request (get_or verdicts at Accepted)) ∷ [])) count (c.in_ok-octets.ensures.sends number)));
+          (subst (λ (n : ℕ). SendsLines means c.loop-verdict.board c.send_verdict.new.board (reply number c.args.moment n (verdict_report c.args.request (get_or verdicts at Accepted)) ∷ [])) count (c.in_ok-octets.ensures.sends number)));
       counted = λ number.
           subst (λ (outputs : List Output). IsCountOf outputs (record c.loop-verdict.sent { replies = c.loop-verdict.sent.replies + 1; octets = c.loop-verdict.sent.octets + c.from.result })) (sym (more number))
           (counted_more _ c.loop-verdict.sent number c.args.moment (count_behind first at) (verdict_report c.args.request (get_or verdicts at Accepted)) c.from.result (so_far.counted number)
@@ -65,8 +65,8 @@ loop-verdict-preserved g c =
 
 pub returns-clause-sends : goal.returns-clause-sends
 returns-clause-sends g c number =
-    let board = g.B.Board in
-    subst (λ (l : List Verdict). SendsLines board.device board.moment board.sent board.counts c.args.board.now c.loop-verdict.board (replies_from number c.args.moment c.args.table.now.reports (map (verdict_report c.args.request) l)))
+    let means = g.B.Board.means in
+    subst (λ (l : List Verdict). SendsLines means c.args.board.now c.loop-verdict.board (replies_from number c.args.moment c.args.table.now.reports (map (verdict_report c.args.request) l)))
     (take_all c.loop-verdict.verdict-index c.args.verdicts.now (omega arith)) (c.loop-verdict.invariant.sends number)
 
 pub returns-clause-small : goal.returns-clause-small

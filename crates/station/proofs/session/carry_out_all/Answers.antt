@@ -4,10 +4,10 @@ use Rattle.station.proofs.session.carry_out_all.Goals as goal
 
 pub commands-init : goal.commands-init
 commands-init g c =
-    let board = g.B.Board in
-    let source = g.S.Source in
+    let means = g.B.Board.means in
+    let input = g.S.Source.means in
     record {
-      carried = carried_none board.device board.moment board.sent board.counts source.tells source.left source.faults c.args.board.now c.args.source.now _ _ c.requires.reader c.requires.table;
+      carried = carried_none means input c.args.board.now c.args.source.now _ _ c.requires.reader c.requires.table;
       «open» = search rules;
       live = search rules;
       limit = search rules;

@@ -7,10 +7,10 @@ use Rattle.station.proofs.session.carry_out_all.Given as goal
 
 abbrev pub invariant-commands : goal.invariant-commands
 invariant-commands g l =
-    let board = g.B.Board in
-    let source = g.S.Source in
+    let means = g.B.Board.means in
+    let input = g.S.Source.means in
     record {
-      carried : Carried board.device board.moment board.sent board.counts source.tells source.left source.faults l.fn.board l.board l.fn.source l.source (reader_of l.lines) (table_in l.handler);
+      carried : Carried means input l.fn.board l.board l.fn.source l.source (reader_of l.lines) (table_in l.handler);
       «open» : IsTrue (is_open l.handler);
       live : IsTrue (reader_of l.lines).live;
       limit : (reader_of l.lines).limit ≡ text_limit;

@@ -6,18 +6,18 @@ use Rattle.handler.proofs.buffers.Buffers.send_report.Goals as goal
 
 pub returns-clause-sends : goal.returns-clause-sends
 returns-clause-sends g c =
-    let board = g.B.Board in
+    let means = g.B.Board.means in
     on_ok_weaker c.send_line.result
     (λ (sends : _) (number : ℕ).
-    subst (λ (packet : List ℕ). SendsLines board.device board.moment board.sent board.counts c.args.board.now c.send_line.new.board (record { command = number; kind = Reply; channel = 0; packet = packet } ∷ []))
+    subst (λ (packet : List ℕ). SendsLines means c.args.board.now c.send_line.new.board (record { command = number; kind = Reply; channel = 0; packet = packet } ∷ []))
     (ap (take c.args.size) c.deref.ensures.value) (sends number Reply))
     c.send_line.ensures.sends
 
 pub returns-clause-breaks : goal.returns-clause-breaks
 returns-clause-breaks g c =
-    let board = g.B.Board in
+    let means = g.B.Board.means in
     on_err_weaker c.send_line.result
     (λ (breaks : _) (number : ℕ).
-    subst (λ (packet : List ℕ). BreaksIn board.device board.moment board.sent board.counts c.args.board.now c.send_line.new.board (record { command = number; kind = Reply; channel = 0; packet = packet } ∷ []))
+    subst (λ (packet : List ℕ). BreaksIn means c.args.board.now c.send_line.new.board (record { command = number; kind = Reply; channel = 0; packet = packet } ∷ []))
     (ap (take c.args.size) c.deref.ensures.value) (breaks number Reply))
     c.send_line.ensures.breaks

@@ -6,18 +6,18 @@ use Rattle.handler.proofs.buffers.Buffers.send_verdict.Goals as goal
 
 pub returns-clause-sends : goal.returns-clause-sends
 returns-clause-sends g c =
-    let board = g.B.Board in
+    let means = g.B.Board.means in
     on_ok_weaker c.send_report.result
     (λ (sends : _) (number : ℕ).
-    subst (λ (packet : List ℕ). SendsLines board.device board.moment board.sent board.counts c.args.board.now c.send_report.new.board (record { command = number; kind = Reply; channel = 0; packet = packet } ∷ []))
+    subst (λ (packet : List ℕ). SendsLines means c.args.board.now c.send_report.new.board (record { command = number; kind = Reply; channel = 0; packet = packet } ∷ []))
     c.write_verdict-length.ensures.front (sends number))
     c.send_report.ensures.sends
 
 pub returns-clause-breaks : goal.returns-clause-breaks
 returns-clause-breaks g c =
-    let board = g.B.Board in
+    let means = g.B.Board.means in
     on_err_weaker c.send_report.result
     (λ (breaks : _) (number : ℕ).
-    subst (λ (packet : List ℕ). BreaksIn board.device board.moment board.sent board.counts c.args.board.now c.send_report.new.board (record { command = number; kind = Reply; channel = 0; packet = packet } ∷ []))
+    subst (λ (packet : List ℕ). BreaksIn means c.args.board.now c.send_report.new.board (record { command = number; kind = Reply; channel = 0; packet = packet } ∷ []))
     c.write_verdict-length.ensures.front (breaks number))
     c.send_report.ensures.breaks

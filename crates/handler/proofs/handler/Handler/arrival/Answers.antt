@@ -10,15 +10,15 @@ use Rattle.handler.proofs.handler.Handler.arrival.Goals as goal
 
 pub returns-then-not-forwarded-clause-sends : goal.returns-then-not-forwarded-clause-sends
 returns-then-not-forwarded-clause-sends g c number =
-    let board = g.B.Board in
-    subst (λ (outputs : List Output). SendsLines board.device board.moment board.sent board.counts c.args.board.now c.args.board.now outputs)
+    let means = g.B.Board.means in
+    subst (λ (outputs : List Output). SendsLines means c.args.board.now c.args.board.now outputs)
     (sym (kept_back (table_in c.args.self.now) (octets_of c.args.packet) (sym c.forwards-forwarded.ensures ∙ c.if-not-forwarded.true) number c.args.moment))
-    (lines_none board.device board.moment board.sent board.counts c.args.board.now)
+    (lines_none means c.args.board.now)
 
 pub returns-in-Ok-send_forwarded-clause-sends : goal.returns-in-Ok-send_forwarded-clause-sends
 returns-in-Ok-send_forwarded-clause-sends g c number =
-    let board = g.B.Board in
-    subst (λ (outputs : List Output). SendsLines board.device board.moment board.sent board.counts c.args.board.now c.send_forwarded.new.board outputs)
+    let means = g.B.Board.means in
+    subst (λ (outputs : List Output). SendsLines means c.args.board.now c.send_forwarded.new.board outputs)
     (sym (sent_on (table_in c.args.self.now) (octets_of c.args.packet) (sym c.forwards-forwarded.ensures ∙ c.if-not-forwarded.false) number c.args.moment))
     (c.in-Ok-send_forwarded.ensures.sends number)
 
@@ -30,9 +30,9 @@ returns-in-Ok-send_forwarded-clause-counted g c number =
 
 pub returns-in-Err-send_forwarded-clause-breaks : goal.returns-in-Err-send_forwarded-clause-breaks
 returns-in-Err-send_forwarded-clause-breaks g c =
-    let board = g.B.Board in
+    let means = g.B.Board.means in
     rw c.close.ensures.fault
     (λ (number : ℕ).
-    subst (λ (outputs : List Output). BreaksIn board.device board.moment board.sent board.counts c.args.board.now c.send_forwarded.new.board outputs)
+    subst (λ (outputs : List Output). BreaksIn means c.args.board.now c.send_forwarded.new.board outputs)
     (sym (sent_on (table_in c.args.self.now) (octets_of c.args.packet) (sym c.forwards-forwarded.ensures ∙ c.if-not-forwarded.false) number c.args.moment))
     (c.in-Err-send_forwarded.ensures.breaks number))

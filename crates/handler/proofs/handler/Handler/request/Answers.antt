@@ -16,8 +16,8 @@ returns-in-Ok-clause-table g c number =
 
 pub returns-in-Ok-clause-sends : goal.returns-in-Ok-clause-sends
 returns-in-Ok-clause-sends g c number =
-    let board = g.B.Board in
-    subst (λ (step : Step). SendsLines board.device board.moment board.sent board.counts c.args.board.now c.send_answer.new.board step.outputs)
+    let means = g.B.Board.means in
+    subst (λ (step : Step). SendsLines means c.args.board.now c.send_answer.new.board step.outputs)
     (answered number c.args.moment (octets_of c.args.packet) c.identifier_of-identifier.result (table_of c.args.self.now.table) (table_of c.decide-decision.new.table) c.decide-decision.result
     c.decide-decision.ensures c.identifier_of-identifier.ensures)
     (c.in-Ok.ensures.sends number)
@@ -31,10 +31,10 @@ returns-in-Ok-clause-counted g c number =
 
 pub returns-in-Err-clause-breaks : goal.returns-in-Err-clause-breaks
 returns-in-Err-clause-breaks g c =
-    let board = g.B.Board in
+    let means = g.B.Board.means in
     rw c.close.ensures.fault
     (λ (number : ℕ).
-    subst (λ (step : Step). BreaksIn board.device board.moment board.sent board.counts c.args.board.now c.send_answer.new.board step.outputs)
+    subst (λ (step : Step). BreaksIn means c.args.board.now c.send_answer.new.board step.outputs)
     (answered number c.args.moment (octets_of c.args.packet) c.identifier_of-identifier.result (table_of c.args.self.now.table) (table_of c.decide-decision.new.table) c.decide-decision.result
     c.decide-decision.ensures c.identifier_of-identifier.ensures)
     (c.in-Err.ensures.breaks number))
