@@ -3,7 +3,9 @@ pub mod Pages
 mod Pushes
 pub mod Reading
 pub mod Runs
+mod Stepped
 mod Steps
 pub mod Stops
+pub mod Touching
 mod Walks
 pub mod Works

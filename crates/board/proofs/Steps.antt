@@ -122,7 +122,7 @@ module _ (old new : History) (stayed : Stayed old new) where
   stayed_past : (t : ℕ) → was_in new t ≡ was_in old t
   stayed_past t = λ i. flash_after (take t (stayed.steps i)) (first_flash (stayed.first i))
 
-  stayed_sent : (t : ℕ) → sent_in new t ≡ sent_in old t
+  pub stayed_sent : (t : ℕ) → sent_in new t ≡ sent_in old t
   stayed_sent t = λ i. take (sent_by (take t (stayed.steps i))) (stayed.sent i)
 
   pub stayed_quietly : sent_in new (steps_in new) ≡ sent_in old (steps_in old)

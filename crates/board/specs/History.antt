@@ -16,7 +16,7 @@ abbrev pub torn : (ℕ → Bool) → Flash → Flash
 torn these flash = written these flash.content flash
 
 abbrev pub flash_after_step : Step → Flash → Flash
-flash_after_step (Program place octets) flash = written (only_page place) (λ _. octets) flash
+flash_after_step (Program place octets) flash = written (only_page place) (λ _. octets.value) flash
 flash_after_step (TornProgram place) flash = torn (only_page place) flash
 flash_after_step (Erase block) flash = wiped (pages_of_block block) flash
 flash_after_step (TornErase block) flash = torn (pages_of_block block) flash
@@ -29,7 +29,7 @@ flash_after (step ∷ steps) flash = flash_after steps (flash_after_step step fl
 
 -- the octets of a step that programs a page
 abbrev pub octets_of : Step → List ℕ
-octets_of (Program place octets) = octets
+octets_of (Program place octets) = octets.value
 octets_of (TornProgram place) = blank
 octets_of (Erase block) = blank
 octets_of (TornErase block) = blank

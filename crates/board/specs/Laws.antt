@@ -36,7 +36,7 @@ wipe true erased old known is = refl
 wipe false erased old known is = known is
 
 blank_after_step : (step : Step) (flash : Flash) → ErasedBlank flash → ErasedBlank (flash_after_step step flash)
-blank_after_step (Program place octets) flash known p is = spoil (only_page place p) (flash.erased p) octets (flash.content p) (known p) is
+blank_after_step (Program place octets) flash known p is = spoil (only_page place p) (flash.erased p) octets.value (flash.content p) (known p) is
 blank_after_step (TornProgram place) flash known p is = spoil (only_page place p) (flash.erased p) (flash.content p) (flash.content p) (known p) is
 blank_after_step (Erase block) flash known p is = wipe (pages_of_block block p) (flash.erased p) (flash.content p) (known p) is
 blank_after_step (TornErase block) flash known p is = spoil (pages_of_block block p) (flash.erased p) (flash.content p) (flash.content p) (known p) is
@@ -56,7 +56,7 @@ erased_blank board = blank_after board.history.steps.items (first_flash board.hi
 
 -- each page of a step has 256 octets, so each of the flash does
 pub content_after_step : (n : ℕ) (step : Step) (flash : Flash) → IsStep n step → (p : ℕ) → IsPage (flash.content p) → IsPage ((flash_after_step step flash).content p)
-content_after_step n (Program place octets) flash fits p page = pick IsPage (only_page place p) octets (flash.content p) fits.octets page
+content_after_step n (Program place octets) flash fits p page = pick IsPage (only_page place p) octets.value (flash.content p) fits.octets page
 content_after_step n (TornProgram place) flash fits p page = pick IsPage (only_page place p) (flash.content p) (flash.content p) page page
 content_after_step n (Erase block) flash fits p page = pick IsPage (pages_of_block block p) blank (flash.content p) fits.octets page
 content_after_step n (TornErase block) flash fits p page = pick IsPage (pages_of_block block p) (flash.content p) (flash.content p) page page

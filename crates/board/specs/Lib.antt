@@ -12,3 +12,4 @@ pub mod MemorySource
 pub mod Moments
 pub mod Reads
 pub mod Stopped
+pub mod Touches

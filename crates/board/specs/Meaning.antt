@@ -2,7 +2,7 @@
 --
 -- A trait has one ghost member of such a type, and an impl gives it as a record. `BoardMeaning` holds types in
 -- `images`, so it lives one level up.
-use Rattle.std.specs.Prelude.{ℕ, Bool, List}
+use Rattle.std.specs.Prelude.{ℕ, Bool, List, IsTrue}
 use Rattle.board.specs.Counts.{Counts}
 use Rattle.board.specs.Device.{Device}
 use Rattle.board.specs.Flash.{Flash}
@@ -26,5 +26,13 @@ pub record SourceMeaning (S : Type 0) : Type 1 where
   pub tells : S → Bool
   -- The octets that are still to come. It says nothing where they are not told.
   pub left : S → List ℕ
-  -- How often it has failed. This count never falls.
+  -- How often it has failed, and how often it was asked. These counts never fall.
   pub faults : S → ℕ
+  pub takes : S → ℕ
+
+-- whether it tells its flash, and what it has sent
+abbrev pub TellsFlash : {B : Type 0} → BoardMeaning B → B → Type 0
+TellsFlash means board = IsTrue (means.device board).tells_flash
+
+abbrev pub TellsLink : {B : Type 0} → BoardMeaning B → B → Type 0
+TellsLink means board = IsTrue (means.device board).tells_link

@@ -48,6 +48,8 @@ counts_of board = record {
   reads = board.calls.reads.made;
   programs = board.calls.programs.made;
   erases = board.calls.erases.made;
+  barriers = board.calls.barriers.made;
+  sends = board.calls.sends.made;
 }
 
 -- all of it as one value
@@ -85,7 +87,7 @@ pub record IsNewBoard (blocks : ℕ) (content : ℕ → List ℕ) (erased : Bool
   pub loose : (p : ℕ) → (flash_of board).loose p ≡ false
   pub moment : moment_of board ≡ 0
   pub sent : sent_at board (moment_of board) ≡ []
-  pub counts : counts_of board ≡ record { flash_faults = 0; link_faults = 0; reads = 0; programs = 0; erases = 0 }
+  pub counts : counts_of board ≡ record { flash_faults = 0; link_faults = 0; reads = 0; programs = 0; erases = 0; barriers = 0; sends = 0 }
   pub made : calls_made board ≡ each 0
   pub planned : planned_calls board ≡ each []
   pub starved : is_starved board ≡ false

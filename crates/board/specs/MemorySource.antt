@@ -25,7 +25,7 @@ faults_of source = source.faults
 
 -- all of it as one value
 abbrev pub text_means : SourceMeaning MemSource
-text_means = record { tells = tells_left; left = left_of; faults = faults_of }
+text_means = record { tells = tells_left; left = left_of; faults = faults_of; takes = takes_made }
 
 -- A text of which nothing was taken.
 pub record IsNewSource (bytes : List ℕ) (source : MemSource) : Type 0 where

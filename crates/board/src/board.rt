@@ -1,9 +1,11 @@
 // A flash device with its link. What a board means is said by its ghost member.
 ghost use Rattle.std.specs.Prelude.{◌≡◌, ◌≤◌, ◌<◌, ◌+◌, ◌*◌, ◌++◌, ◌⊎◌, ℕ, List, true, length, IsTrue, OnOk, OnErr};
-ghost use Rattle.board.specs.Counts.{Rose, Sends, Works};
-ghost use Rattle.board.specs.Flash.{Fails, IsClean, IsContent, IsImage, blank, firm, loosened, only_page, pages_of_block, wiped, written};
-ghost use Rattle.board.specs.Meaning.{BoardMeaning};
-ghost use Rattle.board.specs.Moments.{GainsFront, LeavesOnly, SendsNothing, SendsOnly};
+ghost use Rattle.board.specs.Counts.{Rose, Sends};
+ghost use Rattle.board.specs.Flash.{Fails, IsClean, IsContent, IsImage, blank, firm, only_page, pages_of_block, wiped, written};
+ghost use Rattle.board.specs.Meaning.{BoardMeaning, TellsFlash, TellsLink};
+ghost use Rattle.board.specs.Moments.{GainsFront, SendsOnly};
+ghost use Rattle.board.specs.Reads.{FlashStays, ReadsOnly};
+ghost use Rattle.board.specs.Touches.{Touches, no_page};
 
 /// The outside did not do what it was asked.
 #[derive(Clone, Copy, Debug, PartialEq, Eq)]
@@ -24,15 +26,10 @@ pub trait Board {
         requires page { page < 256 }
         requires length { length into.old ≡ 256 }
 
-        ensures read { OnOk result (IsTrue (means.device self.old).tells_flash → into.new ≡ (means.flash self.old).content (256 * block + page)) }
-        ensures flash { IsTrue (means.device self.old).tells_flash → means.flash self.new ≡ means.flash self.old }
-        ensures seen { IsTrue (means.device self.old).tells_flash
-            → means.images self.old (means.moment self.old) (means.flash self.old).content → means.images self.new (means.moment self.new) (means.flash self.new).content }
-        ensures leaves { IsTrue (means.device self.old).tells_flash
-            → LeavesOnly means self.old self.new (IsImage (means.device self.old).blocks (means.flash self.old)) }
-        ensures unsent { IsTrue (means.device self.old).tells_link → SendsNothing means self.old self.new }
-        ensures same { means.device self.new ≡ means.device self.old }
-        ensures work { Works 1 0 0 (means.counts self.old) (means.counts self.new) }
+        ensures read { OnOk result (TellsFlash means self.old
+            → into.new ≡ (means.flash self.old).content (256 * block + page)) }
+        ensures reads { ReadsOnly means 1 self.old self.new }
+        ensures counted { OnOk result (Rose (means.counts self.old).reads (means.counts self.new).reads) }
         ensures no_fault { OnOk result ((means.counts self.new).flash_faults ≡ (means.counts self.old).flash_faults) }
         ensures cause { OnErr result (Rose (means.counts self.old).flash_faults (means.counts self.new).flash_faults) };
 
@@ -41,18 +38,18 @@ pub trait Board {
         requires block { block < (means.device self.old).blocks }
         requires page { page < 256 }
         requires length { length from.now ≡ 256 }
-        requires clean { IsTrue (means.device self.old).tells_flash → IsClean (means.flash self.old) (256 * block + page) }
+        requires clean { TellsFlash means self.old → IsClean (means.flash self.old) (256 * block + page) }
 
-        ensures ok { OnOk result (IsTrue (means.device self.old).tells_flash
-            → means.flash self.new ≡ written (only_page (256 * block + page)) (λ _. from.now) (means.flash self.old)) }
-        ensures err { OnErr result (IsTrue (means.device self.old).tells_flash → Fails (only_page (256 * block + page)) (means.flash self.old) (means.flash self.new)) }
-        ensures later { IsTrue (means.device self.old).tells_flash → (means.flash self.new ≡ means.flash self.old) ⊎ (means.moment self.old < means.moment self.new) }
-        ensures seen { OnOk result (IsTrue (means.device self.old).tells_flash → means.images self.new (means.moment self.new) (means.flash self.new).content) }
-        ensures leaves { IsTrue (means.device self.old).tells_flash → LeavesOnly means self.old self.new
-            (IsImage (means.device self.old).blocks (loosened (only_page (256 * block + page)) (means.flash self.old))) }
-        ensures unsent { IsTrue (means.device self.old).tells_link → SendsNothing means self.old self.new }
-        ensures same { means.device self.new ≡ means.device self.old }
-        ensures work { Works 0 1 0 (means.counts self.old) (means.counts self.new) }
+        ensures ok { OnOk result (TellsFlash means self.old → means.flash self.new
+            ≡ written (only_page (256 * block + page)) (λ _. from.now) (means.flash self.old)) }
+        ensures err { OnErr result (TellsFlash means self.old
+            → Fails (only_page (256 * block + page)) (means.flash self.old) (means.flash self.new)) }
+        ensures later { TellsFlash means self.old
+            → (means.flash self.new ≡ means.flash self.old) ⊎ (means.moment self.old < means.moment self.new) }
+        ensures seen { OnOk result (TellsFlash means self.old
+            → means.images self.new (means.moment self.new) (means.flash self.new).content) }
+        ensures touches { Touches means (only_page (256 * block + page)) 1 0 0 self.old self.new }
+        ensures counted { OnOk result (Rose (means.counts self.old).programs (means.counts self.new).programs) }
         ensures no_fault { OnOk result ((means.counts self.new).flash_faults ≡ (means.counts self.old).flash_faults) }
         ensures cause { OnErr result (Rose (means.counts self.old).flash_faults (means.counts self.new).flash_faults) };
 
@@ -60,47 +57,44 @@ pub trait Board {
     fn erase(&mut self, block: u32) -> Result<(), Failed>
         requires { block < (means.device self.old).blocks }
 
-        ensures ok { OnOk result (IsTrue (means.device self.old).tells_flash → means.flash self.new ≡ wiped (pages_of_block block) (means.flash self.old)) }
-        ensures err { OnErr result (IsTrue (means.device self.old).tells_flash → Fails (pages_of_block block) (means.flash self.old) (means.flash self.new)) }
-        ensures later { IsTrue (means.device self.old).tells_flash → (means.flash self.new ≡ means.flash self.old) ⊎ (means.moment self.old < means.moment self.new) }
-        ensures seen { OnOk result (IsTrue (means.device self.old).tells_flash → means.images self.new (means.moment self.new) (means.flash self.new).content) }
-        ensures leaves { IsTrue (means.device self.old).tells_flash → LeavesOnly means self.old self.new
-            (IsImage (means.device self.old).blocks (loosened (pages_of_block block) (means.flash self.old))) }
-        ensures unsent { IsTrue (means.device self.old).tells_link → SendsNothing means self.old self.new }
-        ensures same { means.device self.new ≡ means.device self.old }
-        ensures work { Works 0 0 1 (means.counts self.old) (means.counts self.new) }
+        ensures ok { OnOk result (TellsFlash means self.old
+            → means.flash self.new ≡ wiped (pages_of_block block) (means.flash self.old)) }
+        ensures err { OnErr result (TellsFlash means self.old
+            → Fails (pages_of_block block) (means.flash self.old) (means.flash self.new)) }
+        ensures later { TellsFlash means self.old
+            → (means.flash self.new ≡ means.flash self.old) ⊎ (means.moment self.old < means.moment self.new) }
+        ensures seen { OnOk result (TellsFlash means self.old
+            → means.images self.new (means.moment self.new) (means.flash self.new).content) }
+        ensures touches { Touches means (pages_of_block block) 0 1 0 self.old self.new }
+        ensures counted { OnOk result (Rose (means.counts self.old).erases (means.counts self.new).erases) }
         ensures no_fault { OnOk result ((means.counts self.new).flash_faults ≡ (means.counts self.old).flash_faults) }
         ensures cause { OnErr result (Rose (means.counts self.old).flash_faults (means.counts self.new).flash_faults) };
 
     /// Makes all loose pages firm.
     fn barrier(&mut self) -> Result<(), Failed>
-        ensures ok { OnOk result (IsTrue (means.device self.old).tells_flash → means.flash self.new ≡ firm (means.flash self.old)) }
-        ensures err { OnErr result (IsTrue (means.device self.old).tells_flash → means.flash self.new ≡ means.flash self.old) }
-        ensures later { IsTrue (means.device self.old).tells_flash → (means.flash self.new ≡ means.flash self.old) ⊎ (means.moment self.old < means.moment self.new) }
-        ensures seen { OnOk result (IsTrue (means.device self.old).tells_flash → means.images self.new (means.moment self.new) (means.flash self.new).content) }
-        ensures leaves { IsTrue (means.device self.old).tells_flash
-            → LeavesOnly means self.old self.new (IsImage (means.device self.old).blocks (means.flash self.old)) }
-        ensures unsent { IsTrue (means.device self.old).tells_link → SendsNothing means self.old self.new }
-        ensures same { means.device self.new ≡ means.device self.old }
-        ensures work { Works 0 0 0 (means.counts self.old) (means.counts self.new) }
+        ensures ok { OnOk result (TellsFlash means self.old → means.flash self.new ≡ firm (means.flash self.old)) }
+        ensures err { OnErr result (TellsFlash means self.old → means.flash self.new ≡ means.flash self.old) }
+        ensures later { TellsFlash means self.old
+            → (means.flash self.new ≡ means.flash self.old) ⊎ (means.moment self.old < means.moment self.new) }
+        ensures seen { OnOk result (TellsFlash means self.old
+            → means.images self.new (means.moment self.new) (means.flash self.new).content) }
+        ensures touches { Touches means no_page 0 0 1 self.old self.new }
+        ensures counted { OnOk result (Rose (means.counts self.old).barriers (means.counts self.new).barriers) }
         ensures no_fault { OnOk result ((means.counts self.new).flash_faults ≡ (means.counts self.old).flash_faults) }
         ensures cause { OnErr result (Rose (means.counts self.old).flash_faults (means.counts self.new).flash_faults) };
 
     /// Sends octets. Inside the call, and after `Failed`, a prefix of them has been sent.
     fn send(&mut self, bytes: &[u8]) -> Result<(), Failed>
-        ensures ok { OnOk result (IsTrue (means.device self.old).tells_link
-            → means.sent self.new (means.moment self.new) ≡ means.sent self.old (means.moment self.old) ++ bytes.now) }
-        ensures any_moment { IsTrue (means.device self.old).tells_link
-            → SendsOnly means self.old self.new (GainsFront (means.sent self.old (means.moment self.old)) bytes.now) }
-        ensures later { IsTrue (means.device self.old).tells_link
-            → (means.sent self.new (means.moment self.new) ≡ means.sent self.old (means.moment self.old)) ⊎ (means.moment self.old < means.moment self.new) }
-        ensures flash { IsTrue (means.device self.old).tells_flash → means.flash self.new ≡ means.flash self.old }
-        ensures seen { IsTrue (means.device self.old).tells_flash
-            → means.images self.old (means.moment self.old) (means.flash self.old).content → means.images self.new (means.moment self.new) (means.flash self.new).content }
-        ensures leaves { IsTrue (means.device self.old).tells_flash
-            → LeavesOnly means self.old self.new (IsImage (means.device self.old).blocks (means.flash self.old)) }
+        ensures ok { OnOk result (TellsLink means self.old → means.sent self.new (means.moment self.new)
+            ≡ means.sent self.old (means.moment self.old) ++ bytes.now) }
+        ensures any_moment { TellsLink means self.old → SendsOnly means self.old self.new
+            (GainsFront (means.sent self.old (means.moment self.old)) bytes.now) }
+        ensures later { TellsLink means self.old → (means.sent self.new (means.moment self.new)
+            ≡ means.sent self.old (means.moment self.old)) ⊎ (means.moment self.old < means.moment self.new) }
+        ensures stays { TellsFlash means self.old → FlashStays means self.old self.new }
         ensures same { means.device self.new ≡ means.device self.old }
-        ensures work { Sends (means.counts self.old) (means.counts self.new) }
+        ensures work { Sends 1 (means.counts self.old) (means.counts self.new) }
+        ensures counted { OnOk result (Rose (means.counts self.old).sends (means.counts self.new).sends) }
         ensures no_fault { OnOk result ((means.counts self.new).link_faults ≡ (means.counts self.old).link_faults) }
         ensures cause { OnErr result (Rose (means.counts self.old).link_faults (means.counts self.new).link_faults) };
 
@@ -109,12 +103,15 @@ pub trait Board {
     ghost few_blocks: { (board : Self) → (means.device board).blocks ≤ 512 };
 
     /// Each page of a content has 256 octets.
-    ghost content_pages: { (board : Self) → IsTrue (means.device board).tells_flash → IsContent (means.device board).blocks (means.flash board).content };
+    ghost content_pages: { (board : Self) → TellsFlash means board
+        → IsContent (means.device board).blocks (means.flash board).content };
 
     /// An erased page is blank.
-    ghost erased_blank: { (board : Self) (p : ℕ) → IsTrue (means.device board).tells_flash → (means.flash board).erased p ≡ true → (means.flash board).content p ≡ blank };
+    ghost erased_blank: { (board : Self) (p : ℕ) → TellsFlash means board
+        → (means.flash board).erased p ≡ true → (means.flash board).content p ≡ blank };
 
     /// Each image that a stop leaves now is one by the flash as it is.
-    ghost images_now: { (board : Self) (image : ℕ → List ℕ) → IsTrue (means.device board).tells_flash
-        → means.images board (means.moment board) image → IsImage (means.device board).blocks (means.flash board) image };
+    ghost images_now: { (board : Self) (image : ℕ → List ℕ) → TellsFlash means board
+        → means.images board (means.moment board) image
+        → IsImage (means.device board).blocks (means.flash board) image };
 }

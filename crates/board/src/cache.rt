@@ -53,15 +53,15 @@ fn wipe(pages: &mut Vec<[u8; 256]>, first: usize)
 }
 
 /// Does to the pages what a step does to the content of a flash.
-pub fn do_step(pages: &mut Vec<[u8; 256]>, step: Step)
-    requires { end_of step ≤ length pages.old.items }
+pub fn do_step(pages: &mut Vec<[u8; 256]>, step: &Step)
+    requires { end_of step.now ≤ length pages.old.items }
     ensures count { length pages.new.items ≡ length pages.old.items }
     ensures pages { (flash : Flash) (p : ℕ) → get_or pages.old.items p [] ≡ flash.content p
-        → get_or pages.new.items p [] ≡ (flash_after_step step flash).content p }
+        → get_or pages.new.items p [] ≡ (flash_after_step step.now flash).content p }
 {
     match step {
-        Step::Program { place, octets } => put(pages, place as usize, octets),
-        Step::Erase { block } => wipe(pages, 256 * block as usize),
+        Step::Program { place, octets } => put(pages, *place as usize, **octets),
+        Step::Erase { block } => wipe(pages, 256 * *block as usize),
         Step::TornProgram { .. } | Step::TornErase { .. } | Step::Barrier | Step::Send { .. } => {}
     }
 }

@@ -1,5 +1,6 @@
 // The calls of each kind: how many there were, and which are to fail.
-ghost use Rattle.std.specs.Prelude.{◌≡◌, ◌≤◌, ◌↔◌, ◌++◌, [], ◌∷◌, Contains, IsTrue, OnErr, OnOk};
+ghost use Rattle.std.specs.Prelude.{◌≡◌, ◌≤◌, ◌+◌, ◌↔◌, ◌++◌, [], ◌∷◌, Contains, IsTrue, OnErr, OnOk};
+ghost use Rattle.board.specs.Counts.{Rose};
 ghost use Rattle.board.specs.Kinds.{at_kind, changed, each, one_more};
 
 use std::alloc::{AllocError, Global};
@@ -47,6 +48,8 @@ impl KindCalls {
     pub fn fails_next(&mut self) -> bool
         ensures made { self.new.made ≡ one_more self.old.made }
         ensures rises { self.old.made ≤ self.new.made }
+        ensures by_one { self.new.made ≤ self.old.made + 1 }
+        ensures rose { Rose self.old.made self.new.made }
         ensures planned { self.new.planned.items ≡ self.old.planned.items }
         ensures fails { IsTrue result ↔ Contains self.old.planned.items self.new.made }
     {
@@ -114,6 +117,8 @@ impl Calls {
     pub fn fails_next(&mut self, kind: CallKind) -> bool
         ensures made { made_in self.new ≡ changed kind one_more (made_in self.old) }
         ensures rises { at_kind kind (made_in self.old) ≤ at_kind kind (made_in self.new) }
+        ensures by_one { at_kind kind (made_in self.new) ≤ at_kind kind (made_in self.old) + 1 }
+        ensures rose { Rose (at_kind kind (made_in self.old)) (at_kind kind (made_in self.new)) }
         ensures planned { planned_in self.new ≡ planned_in self.old }
         ensures fails { IsTrue result ↔ Contains (at_kind kind (planned_in self.old)) (at_kind kind (made_in self.new)) }
     {

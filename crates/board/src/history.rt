@@ -11,6 +11,7 @@ use std::alloc::{AllocError, Global};
 /// What a board began with, and each step since.
 #[derive(Drop)]
 pub struct History {
+    pub alloc: Global,
     pub blocks: u32,
     pub first: First,
     pub steps: Vec<Step>,
@@ -39,8 +40,9 @@ fn keep_step(
     ensures err { OnErr result (steps.new.items ≡ steps.old.items) }
     ensures err_pages { OnErr result (pages.new.items ≡ pages.old.items) }
 {
+    let place = steps.len();
     steps.push(step)?;
-    do_step(pages, step);
+    do_step(pages, &steps[place]);
     Ok(())
 }
 
@@ -74,6 +76,7 @@ impl History {
     {
         let pages = blank_pages(alloc, 256 * blocks as usize)?;
         Ok(History {
+            alloc,
             blocks,
             first: First::Blank,
             steps: Vec::new(alloc),
@@ -96,6 +99,7 @@ impl History {
     {
         let first = copy_of(alloc, &pages)?;
         Ok(History {
+            alloc,
             blocks,
             first: First::Pages(first),
             steps: Vec::new(alloc),

@@ -1,11 +1,14 @@
 // How a board in memory does what a board is asked, and fails where it was planned to.
 ghost use Rattle.std.specs.Prelude.{◌≡◌, ◌≤◌, ◌<◌, ◌+◌, ◌*◌, ◌++◌, ◌⊎◌, ℕ, [], length, IsTrue, OnOk, OnErr};
-ghost use Rattle.board.specs.Counts.{Rose, Sends, Works};
-ghost use Rattle.board.specs.Flash.{Fails, IsClean, IsImage, firm, loosened, only_page, pages_of_block, wiped, written};
+ghost use Rattle.board.specs.Counts.{Rose, Sends};
+ghost use Rattle.board.specs.Flash.{Fails, IsClean, firm, only_page, pages_of_block, wiped, written};
 ghost use Rattle.board.specs.History.{IsStep, sent_by_step};
 ghost use Rattle.board.specs.Kept.{Grew, Stayed};
 ghost use Rattle.board.specs.Kinds.{one_more};
-ghost use Rattle.board.specs.Moments.{GainsFront, LeavesOnly, SendsNothing, SendsOnly};
+ghost use Rattle.board.specs.Meaning.{TellsFlash, TellsLink};
+ghost use Rattle.board.specs.Moments.{GainsFront, SendsOnly};
+ghost use Rattle.board.specs.Reads.{FlashStays, ReadsOnly};
+ghost use Rattle.board.specs.Touches.{Touches, no_page};
 
 use crate::board::{Board, Failed};
 use crate::cache::page_of;
@@ -21,6 +24,17 @@ fn raise(faults: &mut u64)
     ensures cause { Rose faults.old faults.new }
 {
     *faults = faults.saturating_add(1);
+}
+
+// Counts a fault for want of memory.
+fn starve(faults: &mut u64, starved: &mut bool)
+    ensures exact { faults.new ≡ one_more faults.old }
+    ensures rises { faults.old ≤ faults.new }
+    ensures cause { Rose faults.old faults.new }
+    ensures starved { IsTrue starved.new }
+{
+    *starved = true;
+    raise(faults);
 }
 
 // Does a step. Where there is no memory for it, that is a fault.
@@ -44,8 +58,7 @@ fn keep(
     match history.take_step(step) {
         Ok(()) => Ok(()),
         Err(_) => {
-            *starved = true;
-            raise(faults);
+            starve(faults, starved);
             Err(Failed)
         }
     }
@@ -92,15 +105,10 @@ impl Board for MemBoard {
         requires page { page < 256 }
         requires length { length into.old ≡ 256 }
 
-        ensures read { OnOk result (IsTrue (device_of self.old).tells_flash → into.new ≡ (flash_of self.old).content (256 * block + page)) }
-        ensures flash { IsTrue (device_of self.old).tells_flash → flash_of self.new ≡ flash_of self.old }
-        ensures seen { IsTrue (device_of self.old).tells_flash
-            → image_at self.old (moment_of self.old) (flash_of self.old).content → image_at self.new (moment_of self.new) (flash_of self.new).content }
-        ensures leaves { IsTrue (device_of self.old).tells_flash
-            → LeavesOnly memory_means self.old self.new (IsImage (device_of self.old).blocks (flash_of self.old)) }
-        ensures unsent { IsTrue (device_of self.old).tells_link → SendsNothing memory_means self.old self.new }
-        ensures same { device_of self.new ≡ device_of self.old }
-        ensures work { Works 1 0 0 (counts_of self.old) (counts_of self.new) }
+        ensures read { OnOk result (TellsFlash memory_means self.old
+            → into.new ≡ (flash_of self.old).content (256 * block + page)) }
+        ensures reads { ReadsOnly memory_means 1 self.old self.new }
+        ensures counted { OnOk result (Rose (counts_of self.old).reads (counts_of self.new).reads) }
         ensures no_fault { OnOk result ((counts_of self.new).flash_faults ≡ (counts_of self.old).flash_faults) }
         ensures cause { OnErr result (Rose (counts_of self.old).flash_faults (counts_of self.new).flash_faults) }
 
@@ -122,18 +130,18 @@ impl Board for MemBoard {
         requires block { block < (device_of self.old).blocks }
         requires page { page < 256 }
         requires length { length from.now ≡ 256 }
-        requires clean { IsTrue (device_of self.old).tells_flash → IsClean (flash_of self.old) (256 * block + page) }
+        requires clean { TellsFlash memory_means self.old → IsClean (flash_of self.old) (256 * block + page) }
 
-        ensures ok { OnOk result (IsTrue (device_of self.old).tells_flash
-            → flash_of self.new ≡ written (only_page (256 * block + page)) (λ _. from.now) (flash_of self.old)) }
-        ensures err { OnErr result (IsTrue (device_of self.old).tells_flash → Fails (only_page (256 * block + page)) (flash_of self.old) (flash_of self.new)) }
-        ensures later { IsTrue (device_of self.old).tells_flash → (flash_of self.new ≡ flash_of self.old) ⊎ (moment_of self.old < moment_of self.new) }
-        ensures seen { OnOk result (IsTrue (device_of self.old).tells_flash → image_at self.new (moment_of self.new) (flash_of self.new).content) }
-        ensures leaves { IsTrue (device_of self.old).tells_flash → LeavesOnly memory_means self.old self.new
-            (IsImage (device_of self.old).blocks (loosened (only_page (256 * block + page)) (flash_of self.old))) }
-        ensures unsent { IsTrue (device_of self.old).tells_link → SendsNothing memory_means self.old self.new }
-        ensures same { device_of self.new ≡ device_of self.old }
-        ensures work { Works 0 1 0 (counts_of self.old) (counts_of self.new) }
+        ensures ok { OnOk result (TellsFlash memory_means self.old → flash_of self.new
+            ≡ written (only_page (256 * block + page)) (λ _. from.now) (flash_of self.old)) }
+        ensures err { OnErr result (TellsFlash memory_means self.old
+            → Fails (only_page (256 * block + page)) (flash_of self.old) (flash_of self.new)) }
+        ensures later { TellsFlash memory_means self.old
+            → (flash_of self.new ≡ flash_of self.old) ⊎ (moment_of self.old < moment_of self.new) }
+        ensures seen { OnOk result (TellsFlash memory_means self.old
+            → image_at self.new (moment_of self.new) (flash_of self.new).content) }
+        ensures touches { Touches memory_means (only_page (256 * block + page)) 1 0 0 self.old self.new }
+        ensures counted { OnOk result (Rose (counts_of self.old).programs (counts_of self.new).programs) }
         ensures no_fault { OnOk result ((counts_of self.new).flash_faults ≡ (counts_of self.old).flash_faults) }
         ensures cause { OnErr result (Rose (counts_of self.old).flash_faults (counts_of self.new).flash_faults) }
 
@@ -153,7 +161,10 @@ impl Board for MemBoard {
             );
             return Err(Failed);
         }
-        let octets = page_of(from);
+        let Ok(octets) = Box::new(self.history.alloc, page_of(from)) else {
+            starve(&mut self.flash_faults, &mut self.starved);
+            return Err(Failed);
+        };
         keep(
             &mut self.history,
             Step::Program { place, octets },
@@ -165,15 +176,16 @@ impl Board for MemBoard {
     fn erase(&mut self, block: u32) -> Result<(), Failed>
         requires { block < (device_of self.old).blocks }
 
-        ensures ok { OnOk result (IsTrue (device_of self.old).tells_flash → flash_of self.new ≡ wiped (pages_of_block block) (flash_of self.old)) }
-        ensures err { OnErr result (IsTrue (device_of self.old).tells_flash → Fails (pages_of_block block) (flash_of self.old) (flash_of self.new)) }
-        ensures later { IsTrue (device_of self.old).tells_flash → (flash_of self.new ≡ flash_of self.old) ⊎ (moment_of self.old < moment_of self.new) }
-        ensures seen { OnOk result (IsTrue (device_of self.old).tells_flash → image_at self.new (moment_of self.new) (flash_of self.new).content) }
-        ensures leaves { IsTrue (device_of self.old).tells_flash → LeavesOnly memory_means self.old self.new
-            (IsImage (device_of self.old).blocks (loosened (pages_of_block block) (flash_of self.old))) }
-        ensures unsent { IsTrue (device_of self.old).tells_link → SendsNothing memory_means self.old self.new }
-        ensures same { device_of self.new ≡ device_of self.old }
-        ensures work { Works 0 0 1 (counts_of self.old) (counts_of self.new) }
+        ensures ok { OnOk result (TellsFlash memory_means self.old
+            → flash_of self.new ≡ wiped (pages_of_block block) (flash_of self.old)) }
+        ensures err { OnErr result (TellsFlash memory_means self.old
+            → Fails (pages_of_block block) (flash_of self.old) (flash_of self.new)) }
+        ensures later { TellsFlash memory_means self.old
+            → (flash_of self.new ≡ flash_of self.old) ⊎ (moment_of self.old < moment_of self.new) }
+        ensures seen { OnOk result (TellsFlash memory_means self.old
+            → image_at self.new (moment_of self.new) (flash_of self.new).content) }
+        ensures touches { Touches memory_means (pages_of_block block) 0 1 0 self.old self.new }
+        ensures counted { OnOk result (Rose (counts_of self.old).erases (counts_of self.new).erases) }
         ensures no_fault { OnOk result ((counts_of self.new).flash_faults ≡ (counts_of self.old).flash_faults) }
         ensures cause { OnErr result (Rose (counts_of self.old).flash_faults (counts_of self.new).flash_faults) }
 
@@ -201,15 +213,14 @@ impl Board for MemBoard {
     }
 
     fn barrier(&mut self) -> Result<(), Failed>
-        ensures ok { OnOk result (IsTrue (device_of self.old).tells_flash → flash_of self.new ≡ firm (flash_of self.old)) }
-        ensures err { OnErr result (IsTrue (device_of self.old).tells_flash → flash_of self.new ≡ flash_of self.old) }
-        ensures later { IsTrue (device_of self.old).tells_flash → (flash_of self.new ≡ flash_of self.old) ⊎ (moment_of self.old < moment_of self.new) }
-        ensures seen { OnOk result (IsTrue (device_of self.old).tells_flash → image_at self.new (moment_of self.new) (flash_of self.new).content) }
-        ensures leaves { IsTrue (device_of self.old).tells_flash
-            → LeavesOnly memory_means self.old self.new (IsImage (device_of self.old).blocks (flash_of self.old)) }
-        ensures unsent { IsTrue (device_of self.old).tells_link → SendsNothing memory_means self.old self.new }
-        ensures same { device_of self.new ≡ device_of self.old }
-        ensures work { Works 0 0 0 (counts_of self.old) (counts_of self.new) }
+        ensures ok { OnOk result (TellsFlash memory_means self.old → flash_of self.new ≡ firm (flash_of self.old)) }
+        ensures err { OnErr result (TellsFlash memory_means self.old → flash_of self.new ≡ flash_of self.old) }
+        ensures later { TellsFlash memory_means self.old
+            → (flash_of self.new ≡ flash_of self.old) ⊎ (moment_of self.old < moment_of self.new) }
+        ensures seen { OnOk result (TellsFlash memory_means self.old
+            → image_at self.new (moment_of self.new) (flash_of self.new).content) }
+        ensures touches { Touches memory_means no_page 0 0 1 self.old self.new }
+        ensures counted { OnOk result (Rose (counts_of self.old).barriers (counts_of self.new).barriers) }
         ensures no_fault { OnOk result ((counts_of self.new).flash_faults ≡ (counts_of self.old).flash_faults) }
         ensures cause { OnErr result (Rose (counts_of self.old).flash_faults (counts_of self.new).flash_faults) }
 
@@ -232,21 +243,16 @@ impl Board for MemBoard {
     }
 
     fn send(&mut self, bytes: &[u8]) -> Result<(), Failed>
-        ensures ok { OnOk result (IsTrue (device_of self.old).tells_link
-            → sent_at self.new (moment_of self.new) ≡ sent_at self.old (moment_of self.old) ++ bytes.now) }
-        ensures any_moment { IsTrue (device_of self.old).tells_link
-            → SendsOnly memory_means self.old self.new
+        ensures ok { OnOk result (TellsLink memory_means self.old → sent_at self.new (moment_of self.new)
+            ≡ sent_at self.old (moment_of self.old) ++ bytes.now) }
+        ensures any_moment { TellsLink memory_means self.old → SendsOnly memory_means self.old self.new
             (GainsFront (sent_at self.old (moment_of self.old)) bytes.now) }
-        ensures later { IsTrue (device_of self.old).tells_link
-            → (sent_at self.new (moment_of self.new) ≡ sent_at self.old (moment_of self.old))
-            ⊎ (moment_of self.old < moment_of self.new) }
-        ensures flash { IsTrue (device_of self.old).tells_flash → flash_of self.new ≡ flash_of self.old }
-        ensures seen { IsTrue (device_of self.old).tells_flash
-            → image_at self.old (moment_of self.old) (flash_of self.old).content → image_at self.new (moment_of self.new) (flash_of self.new).content }
-        ensures leaves { IsTrue (device_of self.old).tells_flash
-            → LeavesOnly memory_means self.old self.new (IsImage (device_of self.old).blocks (flash_of self.old)) }
+        ensures later { TellsLink memory_means self.old → (sent_at self.new (moment_of self.new)
+            ≡ sent_at self.old (moment_of self.old)) ⊎ (moment_of self.old < moment_of self.new) }
+        ensures stays { TellsFlash memory_means self.old → FlashStays memory_means self.old self.new }
         ensures same { device_of self.new ≡ device_of self.old }
-        ensures work { Sends (counts_of self.old) (counts_of self.new) }
+        ensures work { Sends 1 (counts_of self.old) (counts_of self.new) }
+        ensures counted { OnOk result (Rose (counts_of self.old).sends (counts_of self.new).sends) }
         ensures no_fault { OnOk result ((counts_of self.new).link_faults ≡ (counts_of self.old).link_faults) }
         ensures cause { OnErr result (Rose (counts_of self.old).link_faults (counts_of self.new).link_faults) }
 
@@ -263,8 +269,7 @@ impl Board for MemBoard {
         match self.history.send(bytes) {
             Ok(()) => Ok(()),
             Err(_) => {
-                self.starved = true;
-                raise(&mut self.link_faults);
+                starve(&mut self.link_faults, &mut self.starved);
                 Err(Failed)
             }
         }

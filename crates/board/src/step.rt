@@ -8,10 +8,10 @@ pub enum First {
 }
 
 /// A step by which a board changed. A torn one failed: it changed no octet, and left its pages loose
-/// and not erased.
-#[derive(Clone, Copy)]
+/// and not erased. A page stands beside its step, so that the others are small.
+#[derive(Drop)]
 pub enum Step {
-    Program { place: u32, octets: [u8; 256] },
+    Program { place: u32, octets: Box<[u8; 256]> },
     TornProgram { place: u32 },
     Erase { block: u32 },
     TornErase { block: u32 },

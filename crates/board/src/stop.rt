@@ -82,19 +82,19 @@ fn settle(now: &Vec<[u8; 256]>, firm: &mut Vec<[u8; 256]>, loose: &mut Vec<bool>
 }
 
 // Does a step, once its pages are marked.
-fn step_on(walk: &mut Walk, step: Step)
+fn step_on(walk: &mut Walk, step: &Step)
     requires pages { HasPages (length walk.old.loose.items) walk.old }
-    requires places { end_of step ≤ length walk.old.loose.items }
+    requires places { end_of step.now ≤ length walk.old.loose.items }
     ensures pages { HasPages (length walk.old.loose.items) walk.new }
     ensures shows { (flash : Flash) (firm : ℕ → List ℕ) (p : ℕ) → p < length walk.old.loose.items → Shows flash firm walk.old p
-        → Shows (flash_after_step step flash) (firm_after_step step flash firm) walk.new p }
+        → Shows (flash_after_step step.now flash) (firm_after_step step.now flash firm) walk.new p }
 {
     match step {
         Step::Program { place, .. } | Step::TornProgram { place } => {
-            set_mark(&mut walk.loose, place as usize, true);
+            set_mark(&mut walk.loose, *place as usize, true);
         }
         Step::Erase { block } | Step::TornErase { block } => {
-            loosen(&mut walk.loose, 256 * block as usize);
+            loosen(&mut walk.loose, 256 * *block as usize);
         }
         Step::Barrier => settle(&walk.pages, &mut walk.firm, &mut walk.loose),
         Step::Send { .. } => {}
@@ -116,7 +116,7 @@ fn walk_to(alloc: Global, history: &History, moment: usize) -> Result<Walk, Allo
     let loose = vec![in alloc; false; count]?;
     let mut walk = Walk { pages, firm, loose };
     for index in 0..moment {
-        step_on(&mut walk, history.steps[index]);
+        step_on(&mut walk, &history.steps[index]);
     }
     Ok(walk)
 }

@@ -16,13 +16,13 @@ returns-in-Ok-clause-any_moment c told =
     grew_sends old _ (Send (length bytes)) bytes c.in-Ok.ensures.ok (GainsFront before bytes) (gains_none before bytes)
     (record { front = bytes; prefix = ([], append-nil bytes); gained = refl })
 
-pub returns-in-Ok-clause-flash : goal.returns-in-Ok-clause-flash
-returns-in-Ok-clause-flash c told = grew_flash c.args.self.now.history c.send.new.self (Send (length c.args.bytes.now)) c.args.bytes.now c.in-Ok.ensures.ok
-
-pub returns-in-Ok-clause-seen : goal.returns-in-Ok-clause-seen
-returns-in-Ok-clause-seen c told seen = content_seen c.send.new.self
-
-pub returns-in-Ok-clause-leaves : goal.returns-in-Ok-clause-leaves
-returns-in-Ok-clause-leaves c told =
+pub returns-in-Ok-clause-stays : goal.returns-in-Ok-clause-stays
+returns-in-Ok-clause-stays c told =
     let old = c.args.self.now in
-    grew_leaves old _ (Send (length c.args.bytes.now)) c.args.bytes.now c.in-Ok.ensures.ok (IsImage old.history.blocks (flash_of old)) (λ image is. is) (λ image is. is)
+    let bytes = c.args.bytes.now in
+    record {
+      flash = grew_flash old.history c.send.new.self (Send (length bytes)) bytes c.in-Ok.ensures.ok;
+      seen = λ seen. content_seen c.send.new.self;
+      leaves = grew_leaves old _ (Send (length bytes)) bytes c.in-Ok.ensures.ok
+          (IsImage old.history.blocks (flash_of old)) (λ image is. is) (λ image is. is);
+    }
