@@ -1,8 +1,9 @@
 -- What comes next in a text, by the octets that are held of it, and what a reader becomes behind a line.
-use Rattle.std.proofs.Common.{◌≡◌, ◌≢◌, ℕ, ◌+◌, ◌≤◌, ◌<◌, Bool, true, false, List, [], ◌∷◌, ◌++◌, length, take, drop, refl, sym, ap, ◌∙◌, subst, arith, append_assoc, inl, inr, Ok, Err, Some, length-take, length-append}
-use Rattle.std.proofs.lemmas.Bool.{lt-leb}
+use Rattle.std.proofs.Common.{◌≡◌, ◌≢◌, ℕ, ◌+◌, ◌-◌, ◌≤◌, ◌<◌, Bool, true, false, List, [], ◌∷◌, ◌++◌, length, take, drop, refl, sym, ap, ◌∙◌, subst, arith, append_assoc, inl, inr, Ok, Err, Some, length-take, length-append}
+use Rattle.std.proofs.lemmas.Bool.Decides.{nat_tests}
 use Rattle.std.proofs.lemmas.List.{append-nil, drop-append-le}
-use Rattle.std.specs.Prelude.{Contains, IsTrue, ◌⊎◌}
+use Rattle.std.specs.Prelude.{Contains, IsTrue, ◌⊎◌, ◌&&◌, nat_le}
+use Rattle.session_text.specs.Find.{is_past}
 use Rattle.session_text.specs.declared.fault.LineEnd.{LineEnd}
 use Rattle.session_text.specs.declared.fault.LineEnd.TheVariants as ends
 use Rattle.pst_model.specs.declared.faults.LineFault.{LineFault}
@@ -41,24 +42,29 @@ next_at-line old held left before count line text =
     ap (λ (l : List ℕ). next_of old.limit old.place l) (sym text) ∙ next-line old.limit old.place held left count line
 
 -- A line that is too long, or that no LF ends, has no known form.
-too_long : (limit place : ℕ) (line : Line) → 131200 < length line.octets → line_reading limit place line ≡ Err faults.Form
-too_long limit place line long = go line.ended refl
+not_within : (limit place held count : ℕ) → is_past (limit - place) held ≡ true → held ≤ count
+    → (nat_le count 131200 && nat_le (place + (count + 1)) limit) ≡ false
+not_within limit place held count past le = grind (arith, nat_tests)
+
+too_long : (limit place held : ℕ) (line : Line) → is_past (limit - place) held ≡ true → held ≤ length line.octets
+    → line_reading limit place line ≡ Err faults.Form
+too_long limit place held line past le = go line.ended refl
   where
     go : (ended : Bool) → line.ended ≡ ended → line_reading limit place line ≡ Err faults.Form
-    go true is = rw (is, lt-leb (length line.octets) 131200 long) refl
+    go true is = rw (is, not_within limit place held (length line.octets) past le) refl
     go false is = rw is refl
 
-endless : (limit place : ℕ) (held left : List ℕ) (told : Bool) → held ≢ [] → ¬ (Contains held 10) → (131200 < length held) ⊎ (IsTrue told → left ≡ []) → IsTrue told
+endless : (limit place : ℕ) (held left : List ℕ) (told : Bool) → held ≢ [] → ¬ (Contains held 10)
+    → (is_past (limit - place) (length held) ≡ true) ⊎ (IsTrue told → left ≡ []) → IsTrue told
     → next_of limit place (held ++ left) ≡ Bad faults.Form
-endless limit place held left told some none (inl long) tells =
+endless limit place held left told some none (inl past) tells =
     let front = lines_in-front held left none some in
-    let reach : length held ≤ length front.0.octets = front.3 in
-    ap (next_in limit place) front.2 ∙ ap (next_by (size_of front.0)) (too_long limit place front.0 (omega arith))
+    ap (next_in limit place) front.2 ∙ ap (next_by (size_of front.0)) (too_long limit place (length held) front.0 past front.3)
 endless limit place held left told some none (inr end) tells =
     ap (next_of limit place) (ap (λ (l : List ℕ). held ++ l) (end tells) ∙ append-nil held) ∙ ap (next_in limit place) (lines_in-unended held none some)
 
 pub next_at-endless : (old : Reader) (held left before : List ℕ) (told : Bool) → held ≢ [] → ¬ (Contains held 10)
-    → (131200 < length held) ⊎ (IsTrue told → left ≡ []) → IsTrue told
+    → (is_past (old.limit - old.place) (length held) ≡ true) ⊎ (IsTrue told → left ≡ []) → IsTrue told
     → held ++ left ≡ old.pending ++ before → next_at old before ≡ Bad faults.Form
 next_at-endless old held left before told some none why tells text =
     ap (next_of old.limit old.place) (sym text) ∙ endless old.limit old.place held left told some none why tells

@@ -1,14 +1,32 @@
 -- Where the first line of the octets that are held ends.
-use Rattle.std.specs.Prelude.{◌≡◌, ◌≢◌, ◌⊎◌, ◌<◌, ◌++◌, ℕ, Bool, List, [], ◌∷◌, length, take, Contains, IsTrue}
+use Rattle.std.specs.Prelude.{◌≡◌, ◌≢◌, ◌⊎◌, ◌&&◌, ◌||◌, nat_le, nat_lt, ◌++◌, ℕ, Bool, true, List, [], ◌∷◌, length, take, Contains, IsTrue}
 use Rattle.session_text.specs.declared.lines.Found.{Found}
 use Rattle.session_text.specs.declared.lines.Found.TheVariants as found
 
+-- Whether so many octets without an LF begin a line that is too long, where the text has room for these: the
+-- line has an octet at least, and more than 131,200, or its LF stands behind the last octet that is taken.
+abbrev pub is_past : (room held : ℕ) → Bool
+is_past room held = nat_lt 0 held && (nat_lt 131200 held || nat_le room held)
+
+-- The octets that are held tell where their first line ends, whatever comes behind them.
+abbrev pub IsFound : (room : ℕ) → List ℕ → Type 0
+IsFound room held = Contains held 10 ⊎ (is_past room (length held) ≡ true)
+
 -- what was found in the octets that are held, behind which these are left
-abbrev pub Finds : List ℕ → Bool → List ℕ → Found → Type 0
-Finds held told left (found.Line count) = ((rest : List ℕ) × (held ≡ take count held ++ 10 ∷ rest)) × ¬ (Contains (take count held) 10)
-Finds held told left found.Endless = (held ≢ []) × ¬ (Contains held 10) × ((131200 < length held) ⊎ (IsTrue told → left ≡ []))
-Finds held told left found.End = (held ≡ []) × (IsTrue told → left ≡ [])
-Finds held told left found.Failed = ¬ (Contains held 10)
+abbrev pub Finds : (room : ℕ) → List ℕ → Bool → List ℕ → Found → Type 0
+Finds room held told left (found.Line count) =
+    ((rest : List ℕ) × (held ≡ take count held ++ 10 ∷ rest)) × ¬ (Contains (take count held) 10)
+Finds room held told left found.Endless =
+    (held ≢ []) × ¬ (Contains held 10) × ((is_past room (length held) ≡ true) ⊎ (IsTrue told → left ≡ []))
+Finds room held told left found.End = (held ≡ []) × (IsTrue told → left ≡ [])
+Finds room held told left found.Failed = ¬ (Contains held 10)
+
+-- how many takes a search makes at most that give it no octet
+abbrev pub empty_takes_of : Found → ℕ
+empty_takes_of (found.Line count) = 0
+empty_takes_of found.Endless = 1
+empty_takes_of found.End = 1
+empty_takes_of found.Failed = 1
 
 abbrev pub OnFailed : Found → Type 0 → Type 0
 OnFailed (found.Line count) P = Unit {0}

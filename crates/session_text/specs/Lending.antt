@@ -1,5 +1,5 @@
 -- What a reader of a text holds, and what a call of it answers and leaves.
-use Rattle.std.specs.Prelude.{◌≡◌, ◌≤◌, ◌<◌, ◌+◌, ◌++◌, ℕ, Bool, true, List, take, drop, Contains, is_ok, IsTrue, Option, Some, None, Result, Ok, Err, ⊤}
+use Rattle.std.specs.Prelude.{◌≡◌, ◌≤◌, ◌<◌, ◌+◌, ◌-◌, ◌++◌, ℕ, Bool, true, List, take, drop, Contains, is_ok, IsTrue, Option, Some, None, Result, Ok, Err, ⊤}
 use Rattle.std.specs.Borrow.{MutBor, Fml}
 use Rattle.std.specs.Io.BufRead.{Rests}
 use Rattle.session_text.specs.declared.command.Command.{Command as View}
@@ -7,6 +7,7 @@ use Rattle.session_text.specs.declared.fault.LineEnd.{LineEnd}
 use Rattle.session_text.specs.declared.fault.LineEnd.TheVariants as ends
 use Rattle.session_text.specs.declared.lines.Lines.{Lines}
 use Rattle.session_text.specs.contracts.lines.Lines.{the_row}
+use Rattle.session_text.specs.Find.{IsFound}
 use Rattle.pst_model.specs.Command.{Command}
 use Rattle.pst_model.specs.declared.faults.LineFault.{LineFault}
 use Rattle.pst_model.specs.Text.{Next, Read, Bad, End, line_reading, next_of, size_of_next}
@@ -57,6 +58,16 @@ abbrev pub UnlessSource : {X : Type 0} → Result X LineEnd → Type 0 → Type 
 UnlessSource (Ok command) P = P
 UnlessSource (Err (ends.Bad line why)) P = P
 UnlessSource (Err ends.Source) P = ⊤
+
+-- What is pending tells what comes next, whatever the source has left.
+abbrev pub IsDecided : Reader → Type 0
+IsDecided reader = IsFound (reader.limit - reader.place) reader.pending
+
+-- how many takes a call makes at most that give it no octet
+abbrev pub empty_takes : {X : Type 0} → Result (Option X) LineEnd → ℕ
+empty_takes (Ok (Some command)) = 0
+empty_takes (Ok None) = 1
+empty_takes (Err fault) = 1
 
 -- The reader moves on behind what was read, and nothing of the text is lost.
 pub record MovesOn {X : Type 0} (old new : Reader) (told : Bool) (left_before left_after : List ℕ) (result : Result (Option X) LineEnd) : Type 0 where

@@ -69,6 +69,8 @@ impl Held {
         ensures kept { OnErr result (IsTrue (S.means.tells source.old) → S.means.left source.new ≡ S.means.left source.old) }
         ensures same { S.means.tells source.new ≡ S.means.tells source.old }
         ensures faults { S.means.faults source.old ≤ S.means.faults source.new }
+        ensures takes { (S.means.takes source.old ≤ S.means.takes source.new)
+            × (S.means.takes source.new ≤ S.means.takes source.old + 1) }
         ensures no_fault { OnOk result (S.means.faults source.new ≡ S.means.faults source.old) }
         ensures cause { OnErr result (Rose (S.means.faults source.old) (S.means.faults source.new)) }
     {

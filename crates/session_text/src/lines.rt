@@ -1,8 +1,8 @@
 // Reads a session text line by line.
-ghost use Rattle.std.specs.Prelude.{◌≡◌, ◌≤◌, ◌<◌, ◌+◌, ◌++◌, ◌^◌, [], length, drop, false, true, Contains, IsTrue, IfOk, IfSome, OnOk, OnErr, Ok, Err, MatchResult};
+ghost use Rattle.std.specs.Prelude.{◌≡◌, ◌≤◌, ◌<◌, ◌+◌, ◌++◌, ◌^◌, [], length, drop, false, true, IsTrue, IfOk, IfSome, OnOk, OnErr, Ok, Err, MatchResult};
 ghost use Rattle.std.specs.Borrow.{sem};
 ghost use Rattle.board.specs.Counts.{Rose};
-ghost use Rattle.session_text.specs.Find.{Finds, OnFailed, UnlessFailed};
+ghost use Rattle.session_text.specs.Find.{Finds, IsFound, OnFailed, UnlessFailed, empty_takes_of, is_past};
 
 use crate::command::Command;
 use crate::fault::LineEnd;
@@ -47,11 +47,21 @@ pub enum Found {
     Failed,
 }
 
-// Takes octets until the first line that is held is whole.
-fn find_line<S: Source>(held: &mut Held, source: &mut S) -> Found
-    ensures found { Finds held.new (S.means.tells source.old) (S.means.left source.new) result }
-    ensures still { Contains held.old 10 → source.new ≡ source.old }
-    ensures text { IsTrue (S.means.tells source.old) → held.new ++ S.means.left source.new ≡ held.old ++ S.means.left source.old }
+// Whether so many octets without an LF begin a line that is too long, in a text with room for these.
+fn is_past(room: u64, held: usize) -> bool
+    ensures { result ≡ is_past room held }
+{
+    held > 0 && (held > LONGEST || room <= held as u64)
+}
+
+// Takes octets until the first line that is held is whole, or too long for a text with room for these.
+fn find_line<S: Source>(held: &mut Held, source: &mut S, room: u64) -> Found
+    ensures found { Finds room held.new (S.means.tells source.old) (S.means.left source.new) result }
+    ensures still { IsFound room held.old → source.new ≡ source.old }
+    ensures text { IsTrue (S.means.tells source.old)
+        → held.new ++ S.means.left source.new ≡ held.old ++ S.means.left source.old }
+    ensures takes { (S.means.takes source.old ≤ S.means.takes source.new) × (S.means.takes source.new + length held.old
+        ≤ S.means.takes source.old + length held.new + empty_takes_of result) }
     ensures same { S.means.tells source.new ≡ S.means.tells source.old }
     ensures faults { S.means.faults source.old ≤ S.means.faults source.new }
     ensures no_fault { UnlessFailed result (S.means.faults source.new ≡ S.means.faults source.old) }
@@ -63,7 +73,7 @@ fn find_line<S: Source>(held: &mut Held, source: &mut S) -> Found
             return Found::Line(seen + more);
         }
         seen = held.octets().len();
-        if seen > LONGEST {
+        if is_past(room, seen) {
             return Found::Endless;
         }
         match held.fill(source) {
@@ -79,7 +89,7 @@ fn find_line<S: Source>(held: &mut Held, source: &mut S) -> Found
 }
 
 impl Lines {
-    ghost use Rattle.session_text.specs.Lending.{MovesOn, OnCommand, OnSource, RestsMoved, Tells, UnlessSource, moved_on, next_at, reader_of, reading_held};
+    ghost use Rattle.session_text.specs.Lending.{IsDecided, MovesOn, OnCommand, OnSource, RestsMoved, Tells, UnlessSource, empty_takes, moved_on, next_at, reader_of, reading_held};
     ghost use Rattle.session_text.specs.Read.{IsHeld, command_in};
     ghost use Rattle.session_text.specs.Shown.{command_of, moment_of};
 
@@ -106,7 +116,8 @@ impl Lines {
     }
 
     /// The next command of the text, or None where the text ended. Nothing is taken from the source
-    /// where a whole line was taken before. After an error it is not called again.
+    /// where what was taken before tells what comes: a whole line, or the begin of one that is too long.
+    /// A take that gives no octet is the last of a call. After an error it is not called again.
     pub fn next_line<'a, S: Source>(
         &'a mut self,
         source: &mut S,
@@ -115,7 +126,10 @@ impl Lines {
         ensures* moves { sem 𝓛 (RestsMoved self.entry (S.means.tells source.old) (S.means.left source.old) (S.means.left source.new) result) }
         ensures next { IsTrue (S.means.tells source.old) → Tells command_of (reader_of self.old) (next_at (reader_of self.old) (S.means.left source.old)) result }
         ensures moment { IfOk result (λ command. IfSome command (λ c. moment_of c < 2 ^ 48)) }
-        ensures still { Contains (reader_of self.old).pending 10 → source.new ≡ source.old }
+        ensures still { IsDecided (reader_of self.old) → source.new ≡ source.old }
+        ensures takes { (S.means.takes source.old ≤ S.means.takes source.new) × (IsTrue (S.means.tells source.old)
+            → S.means.takes source.new + length (S.means.left source.new)
+            ≤ S.means.takes source.old + length (S.means.left source.old) + empty_takes result) }
         ensures same { S.means.tells source.new ≡ S.means.tells source.old }
         ensures faults { S.means.faults source.old ≤ S.means.faults source.new }
         ensures no_fault { UnlessSource result (S.means.faults source.new ≡ S.means.faults source.old) }
@@ -133,13 +147,16 @@ impl Lines {
         ensures moves { MovesOn (reader_of self.old) (reader_of self.new) (S.means.tells source.old) (S.means.left source.old) (S.means.left source.new) result }
         ensures next { IsTrue (S.means.tells source.old) → Tells (command_in self.new.packet.items) (reader_of self.old) (next_at (reader_of self.old) (S.means.left source.old)) result }
         ensures held { IfOk result (λ form. IfSome form (IsHeld self.new.packet.items)) }
-        ensures still { Contains (reader_of self.old).pending 10 → source.new ≡ source.old }
+        ensures still { IsDecided (reader_of self.old) → source.new ≡ source.old }
+        ensures takes { (S.means.takes source.old ≤ S.means.takes source.new) × (IsTrue (S.means.tells source.old)
+            → S.means.takes source.new + length (S.means.left source.new)
+            ≤ S.means.takes source.old + length (S.means.left source.old) + empty_takes result) }
         ensures same { S.means.tells source.new ≡ S.means.tells source.old }
         ensures faults { S.means.faults source.old ≤ S.means.faults source.new }
         ensures no_fault { UnlessSource result (S.means.faults source.new ≡ S.means.faults source.old) }
         ensures cause { OnSource result (Rose (S.means.faults source.old) (S.means.faults source.new)) }
     {
-        match find_line(&mut self.held, source) {
+        match find_line(&mut self.held, source, self.limit - self.place) {
             Found::Line(length) => match self.read_line(length) {
                 Ok(form) => Ok(Some(form)),
                 Err(why) => Err(self.end_at(why)),

@@ -17,16 +17,18 @@ const PACKET: [u8; 20] = [
 struct Pieces<'a> {
     text: &'a [u8],
     most: usize,
+    takes: u64,
     ghost some: { 0 < most },
 }
 
 impl<'a> Source for Pieces<'a> {
-    ghost means = { record { tells = λ pieces. true; left = λ pieces. pieces.text.now; faults = λ pieces. 0 } };
+    ghost means = { record { tells = λ pieces. true; left = λ pieces. pieces.text.now; faults = λ pieces. 0; takes = λ pieces. pieces.takes } };
 
     fn take(&mut self, into: &mut [u8]) -> Result<usize, Failed> {
         let count = self.text.len().min(into.len()).min(self.most);
         into[..count].copy_from_slice(&self.text[..count]);
         self.text = &self.text[count..];
+        self.takes = self.takes.saturating_add(1);
         Ok(count)
     }
 }
@@ -45,7 +47,11 @@ fn commands_come_one_by_one_and_then_none(rt: HostRuntime) -> Result<(), Fail> {
     let text =
         b"A 000000000010 0864c000000d20031900000000000000000010aa\nG 000000000011\nR 000000000012 07ffc000000000\n";
     for most in [1, 7, 4096] {
-        let mut source = Pieces { text, most };
+        let mut source = Pieces {
+            text,
+            most,
+            takes: 0,
+        };
         let mut lines = Lines::new(rt.alloc(), text.len() as u64)?;
         assert!(rt; lines.is_live());
         match lines.next_line(&mut source) {
@@ -120,7 +126,11 @@ fn the_first_bad_line_ends_the_reading(rt: HostRuntime) -> Result<(), Fail> {
         (b"R 000000000001 0F\n", LineFault::Packet(few)),
     ];
     for (text, why) in rows {
-        let mut source = Pieces { text, most: 4096 };
+        let mut source = Pieces {
+            text,
+            most: 4096,
+            takes: 0,
+        };
         let mut lines = Lines::new(rt.alloc(), 1000)?;
         assert!(rt; lines.is_live());
         let end = end_of(&mut lines, &mut source);
@@ -136,6 +146,7 @@ fn a_packet_of_4097_octets_is_too_large(rt: HostRuntime) -> Result<(), Fail> {
     text[..27].copy_from_slice(b"A 000000000010 0864c0000ffa");
     text[8209] = b'\n';
     let mut source = Pieces {
+        takes: 0,
         text: &text,
         most: 4096,
     };
@@ -152,7 +163,11 @@ fn a_packet_of_4097_octets_is_too_large(rt: HostRuntime) -> Result<(), Fail> {
 #[test]
 fn a_line_that_ends_past_the_limit_is_bad(rt: HostRuntime) -> Result<(), Fail> {
     let text = b"G 000000000011\nG 000000000011\n";
-    let mut source = Pieces { text, most: 4096 };
+    let mut source = Pieces {
+        text,
+        most: 4096,
+        takes: 0,
+    };
     let mut lines = Lines::new(rt.alloc(), 29)?;
     assert!(rt; lines.is_live());
     assert!(rt;

@@ -1,5 +1,6 @@
-use Rattle.std.proofs.Common.{◌-◌, ◌≡◌, ◌≤◌, ◌++◌, length, take}
+use Rattle.std.proofs.Common.{◌+◌, ◌-◌, ◌≡◌, ◌≤◌, ◌++◌, length, take}
 use Rattle.std.specs.Prelude.{Contains, IsTrue}
+use Rattle.session_text.specs.Find.{IsFound}
 use Rattle.session_text.proofs.lines.find_line.Given as goal
 
 abbrev pub invariant-takes : goal.invariant-takes
@@ -9,11 +10,13 @@ invariant-takes g l =
       short : l.seen ≤ 131200;
       within : l.seen ≤ length l.held;
       unended : ¬ (Contains (take l.seen l.held) 10);
-      holds : Contains l.fn.held 10 → Contains l.held 10;
-      still : Contains l.fn.held 10 → l.source ≡ l.fn.source;
+      holds : IsFound l.room l.fn.held → IsFound l.room l.held;
+      still : IsFound l.room l.fn.held → l.source ≡ l.fn.source;
       text : IsTrue (input.tells l.fn.source) → l.held ++ input.left l.source ≡ l.fn.held ++ input.left l.fn.source;
       same : input.tells l.source ≡ input.tells l.fn.source;
       faults : input.faults l.source ≡ input.faults l.fn.source;
+      takes_from : input.takes l.fn.source ≤ input.takes l.source;
+      takes_to : input.takes l.source + length l.fn.held ≤ input.takes l.fn.source + length l.held;
     }
 
 abbrev pub decreases-takes : goal.decreases-takes
