@@ -22,7 +22,7 @@ use Rattle.pst_model.proofs.Runs.{lines_of-append}
 use Rattle.handler.specs.Asked.{content_asked, reports_in}
 use Rattle.handler.specs.Content.{HoldsReport}
 use Rattle.handler.specs.Counting.{IsCountOf, and_then, is_forwarded, is_retrieved}
-use Rattle.handler.specs.declared.deciding.Decision.{Decision}
+use Rattle.handler.specs.declared.carrying_out.Outcome.{Outcome}
 use Rattle.handler.specs.declared.sent.Sent.{Sent}
 
 -- no report
@@ -102,16 +102,16 @@ in_parts number moment first mid next before after asked small mid-is next-is =
     ∙ ap (λ (step : Step). behind_outputs step.outputs (replied number moment step.table after)) two
     ∙ ap (λ (t : Table). behind_outputs (front ++ (replied number moment mid (content_asked asked mid)).outputs) (replied number moment t after)) (sym next-is)
 
-module _ (number moment : ℕ) (request : List ℕ) (first mid next : Table) (decision : Decision) (before after : List Verdict) where
-  -- the outputs of what was decided, of which the verdicts are these
-  pub answered_in_parts : before ≡ decision.before.items → after ≡ decision.after.items → first.reports < 16384
-      → mid ≡ (replied number moment first (map (verdict_report request) before)).table → next ≡ (replied number moment mid (content_asked decision.asked mid)).table
-      → behind_outputs ((replied number moment first (map (verdict_report request) before)).outputs ++ (replied number moment mid (content_asked decision.asked mid)).outputs) (replied number moment next (map (verdict_report request) after))
-      ≡ replied number moment first (reports_in request decision first)
+module _ (number moment : ℕ) (request : List ℕ) (first mid next : Table) (outcome : Outcome) (before after : List Verdict) where
+  -- the outputs of what answers a request, of which the verdicts are these
+  pub answered_in_parts : before ≡ outcome.before.items → after ≡ outcome.after.items → first.reports < 16384
+      → mid ≡ (replied number moment first (map (verdict_report request) before)).table → next ≡ (replied number moment mid (content_asked outcome.asked mid)).table
+      → behind_outputs ((replied number moment first (map (verdict_report request) before)).outputs ++ (replied number moment mid (content_asked outcome.asked mid)).outputs) (replied number moment next (map (verdict_report request) after))
+      ≡ replied number moment first (reports_in request outcome first)
   answered_in_parts before-is after-is small mid-is next-is =
-      sym (in_parts number moment first mid next (map (verdict_report request) before) (map (verdict_report request) after) decision.asked small mid-is next-is)
-      ∙ ap (λ (verdicts : List Verdict). replied number moment first (map (verdict_report request) verdicts ++ content_asked decision.asked first ++ map (verdict_report request) after)) before-is
-      ∙ ap (λ (verdicts : List Verdict). replied number moment first (map (verdict_report request) decision.before.items ++ content_asked decision.asked first ++ map (verdict_report request) verdicts)) after-is
+      sym (in_parts number moment first mid next (map (verdict_report request) before) (map (verdict_report request) after) outcome.asked small mid-is next-is)
+      ∙ ap (λ (verdicts : List Verdict). replied number moment first (map (verdict_report request) verdicts ++ content_asked outcome.asked first ++ map (verdict_report request) after)) before-is
+      ∙ ap (λ (verdicts : List Verdict). replied number moment first (map (verdict_report request) outcome.before.items ++ content_asked outcome.asked first ++ map (verdict_report request) verdicts)) after-is
 
 -- the report of the patterns of a store that stands
 pub types_found : (identifier : ℕ) (store : Store) → is_some (find (is_named identifier) (store ∷ [])) ≡ true → types_where (find (is_named identifier) (store ∷ [])) ≡ types_report identifier store.patterns ∷ []

@@ -7,14 +7,15 @@ ghost use Rattle.handler.specs.Forwarding.{forwarded};
 ghost use Rattle.handler.specs.Sending.{BreaksIn, SendsLines};
 ghost use Rattle.handler.specs.Table.{table_of};
 
+use crate::boot_store::CHANNEL;
 use crate::buffers::Buffers;
-use crate::deciding::decide;
+use crate::carrying_out::carry_out_request;
 use crate::fault::HandlerFault;
-use crate::judging::identifier_of;
 use crate::replies::send_answer;
 use crate::sent::Sent;
-use crate::table::{CHANNEL, MemTable};
+use crate::table::MemTable;
 use board::{Board, Failed};
+use pus_header::identifier_of;
 use space_packet::PacketView;
 use std::alloc::{AllocError, Global};
 
@@ -150,7 +151,7 @@ impl Handler {
         ensures faults { OnErr result (result ≡ Err HandlerFault.Link) }
         ensures open { is_open self.new ≡ is_ok result }
     {
-        let decision = decide(&mut self.table, packet);
+        let outcome = carry_out_request(&mut self.table, packet);
         let identifier = identifier_of(packet);
         match send_answer(
             board,
@@ -158,7 +159,7 @@ impl Handler {
             &mut self.buffers,
             moment,
             identifier,
-            &decision,
+            &outcome,
         ) {
             Ok(sent) => Ok(sent),
             Err(_) => Err(self.close()),

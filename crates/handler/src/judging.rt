@@ -1,9 +1,9 @@
 // The judgements that come before a request's instructions.
-ghost use Rattle.std.specs.Prelude.{◌≡◌, None, Some, false, take, MatchResult};
+ghost use Rattle.std.specs.Prelude.{◌≡◌, None, Some, false, MatchResult};
 ghost use Rattle.space_packet.specs.View.{octets_of};
 ghost use Rattle.pus_header.specs.Commands.{acks_of, service_of, subtype_of};
 ghost use Rattle.pus_request.specs.View.{asked, listed};
-ghost use Rattle.pst_model.specs.Answers.{data_in, header_refusal, identifier_of, is_pending, refusal_of, request_refusal};
+ghost use Rattle.pst_model.specs.Answers.{data_in, header_refusal, is_pending, refusal_of, request_refusal};
 ghost use Rattle.pst_model.specs.Requests.{items_in};
 
 use pst_model::{RequestFault, Verdict};
@@ -75,14 +75,6 @@ fn is_pending(service: u8, subtype: u8) -> bool
     ensures { result ≡ is_pending service subtype }
 {
     service == STORAGE && matches!(subtype, 9 | 11 | 14 | 17 | 20 | 21 | 24 | 25 | 26 | 27 | 28)
-}
-
-/// The request identifier of a packet, as reports on it name it: its first four octets.
-pub fn identifier_of(packet: PacketView<'_>) -> [u8; 4]
-    ensures { result ≡ identifier_of (octets_of packet.entry) }
-{
-    let bytes = packet.bytes();
-    [bytes[0], bytes[1], bytes[2], bytes[3]]
 }
 
 /// The request that a packet is, or the first judgement that refuses it.

@@ -2,9 +2,10 @@
 //! (ECSS-E-ST-70-41C, 6.14 and 6.15), which is kept in memory, and the lines that go out.
 #![tactic(auto)]
 
+mod boot_store;
 mod buffers;
+mod carrying_out;
 mod content;
-mod deciding;
 mod fault;
 mod handler;
 mod judging;

@@ -4,11 +4,9 @@ ghost use Rattle.std.specs.VecDeque.{deque_capacity};
 ghost use Rattle.handler.specs.Kept.{IsKept, leaving, packets_of};
 ghost use Rattle.pst_model.specs.Table.{content_in};
 
+use crate::boot_store::SIZE;
 use space_packet::charge;
 use std::collections::VecDeque;
-
-/// The size of the boot store, in pages.
-pub(crate) const SIZE: u32 = 64;
 
 /// A stored packet, with its storage time in 1/65,536 s.
 #[derive(Drop)]

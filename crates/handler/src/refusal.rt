@@ -4,10 +4,8 @@ ghost use Rattle.control_defs.specs.Patterns.{IsPattern};
 ghost use Rattle.pst_model.specs.Instructions.{add_pattern, delete_pattern};
 ghost use Rattle.handler.specs.Refusals.{code_of, set_flag};
 
+use crate::boot_store::BOOT_STORE;
 use control_defs::{Pattern, Patterns};
-
-/// The identifier of the boot store.
-pub(crate) const BOOT_STORE: u16 = 1;
 
 /// Why an instruction fails.
 #[derive(Clone, Copy, Debug, PartialEq, Eq)]

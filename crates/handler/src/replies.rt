@@ -8,7 +8,7 @@ ghost use Rattle.handler.specs.Sending.{BreaksIn, SendsLines};
 ghost use Rattle.handler.specs.Table.{table_of};
 
 use crate::buffers::Buffers;
-use crate::deciding::Decision;
+use crate::carrying_out::Outcome;
 use crate::sent::Sent;
 use crate::table::MemTable;
 use board::{Board, Failed};
@@ -92,15 +92,15 @@ pub fn send_answer<B: Board>(
     buffers: &mut Buffers,
     moment: u64,
     request: [u8; 4],
-    decision: &Decision<'_>,
+    outcome: &Outcome<'_>,
 ) -> Result<Sent, Failed>
     requires { moment < 2 ^ 48 }
-    ensures table { OnOk result ((number : ℕ) → table_of table.new ≡ (replied number moment (table_of table.old) (reports_in request decision.now (table_of table.old))).table) }
+    ensures table { OnOk result ((number : ℕ) → table_of table.new ≡ (replied number moment (table_of table.old) (reports_in request outcome.now (table_of table.old))).table) }
     ensures sends { OnOk result ((number : ℕ) → SendsLines B.means board.old board.new
-        (replied number moment (table_of table.old) (reports_in request decision.now (table_of table.old))).outputs) }
-    ensures counted { IfOk result (λ sent. (number : ℕ) → IsCountOf (replied number moment (table_of table.old) (reports_in request decision.now (table_of table.old))).outputs sent) }
+        (replied number moment (table_of table.old) (reports_in request outcome.now (table_of table.old))).outputs) }
+    ensures counted { IfOk result (λ sent. (number : ℕ) → IsCountOf (replied number moment (table_of table.old) (reports_in request outcome.now (table_of table.old))).outputs sent) }
     ensures breaks { OnErr result ((number : ℕ) → BreaksIn B.means board.old board.new
-        (replied number moment (table_of table.old) (reports_in request decision.now (table_of table.old))).outputs) }
+        (replied number moment (table_of table.old) (reports_in request outcome.now (table_of table.old))).outputs) }
 {
     let first = send_verdicts(
         board,
@@ -108,16 +108,16 @@ pub fn send_answer<B: Board>(
         buffers,
         moment,
         request,
-        decision.before.as_slice(),
+        outcome.before.as_slice(),
     )?;
-    let content = send_content(board, table, buffers, moment, decision.asked)?;
+    let content = send_content(board, table, buffers, moment, outcome.asked)?;
     let last = send_verdicts(
         board,
         table,
         buffers,
         moment,
         request,
-        decision.after.as_slice(),
+        outcome.after.as_slice(),
     )?;
     Ok(first.and(content, last))
 }

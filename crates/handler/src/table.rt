@@ -6,19 +6,14 @@ ghost use Rattle.handler.specs.Kept.{IsKept, leaving, packets_of};
 
 mod rows;
 
+use crate::boot_store::{BOOT_STORE, MOST};
 use crate::packets::{Packet, make_room};
-use crate::refusal::{BOOT_STORE, Refusal, add_pattern, delete_pattern, find_store, set_flag};
+use crate::refusal::{Refusal, add_pattern, delete_pattern, find_store, set_flag};
 use control_defs::{Instruction, Pattern, Patterns};
 use pus_header::key_of;
 use space_packet::{PacketView, charge};
 use std::alloc::{AllocError, Global};
 use std::collections::VecDeque;
-
-/// The virtual channel of the boot store.
-pub const CHANNEL: u8 = 1;
-
-/// The packets that the boot store has room for: each takes one of its 64 pages at least.
-const MOST: usize = 64;
 
 /// The sequence counts of packets (CCSDS 133.0-B, 4.1.3.4.3).
 const COUNTS: u16 = 16384;

@@ -1,9 +1,9 @@
 -- What a request does to the table, and the reports that answer it (ECSS-E-ST-70-41C, 6.1 and 6.15).
-use Rattle.std.specs.Prelude.{ℕ, ◌+◌, ◌/◌, ◌%◌, ◌==◌, ◌&&◌, Bool, true, false, not, if◌then◌else◌, List, [], ◌∷◌, ◌++◌, length, map, take, drop, Option, Some, None, Result, Ok, Err}
+use Rattle.std.specs.Prelude.{ℕ, ◌+◌, ◌/◌, ◌%◌, ◌==◌, ◌&&◌, Bool, true, false, not, if◌then◌else◌, List, [], ◌∷◌, ◌++◌, length, map, drop, Option, Some, None, Result, Ok, Err}
 use Rattle.std.specs.List.{list_any}
 use Rattle.space_packet.specs.Packet.{apid_of}
 use Rattle.control_defs.specs.declared.instructions.Instruction.{Instruction}
-use Rattle.pus_header.specs.Commands.{acks_of, service_of, subtype_of, tc_fault_of}
+use Rattle.pus_header.specs.Commands.{acks_of, identifier_of, service_of, subtype_of, tc_fault_of}
 use Rattle.pus_header.specs.declared.faults.TcFault.{TcFault}
 use Rattle.pus_header.specs.declared.faults.TcFault.TheVariants.{NotCommand, NoHeader, WrongVersion}
 use Rattle.pst_model.specs.declared.faults.RequestFault.{RequestFault}
@@ -133,10 +133,6 @@ replied number moment table reports = record {
   table = record table { reports = count_behind table.reports (length reports) };
   outputs = replies_from number moment table.reports reports;
 }
-
--- the request identifier, as reports of service 1 name it
-abbrev pub identifier_of : List ℕ → List ℕ
-identifier_of packet = take 4 packet
 
 abbrev pub on_request : (packet : List ℕ) → List Verdict → List Report
 on_request packet verdicts = map (verdict_report (identifier_of packet)) verdicts

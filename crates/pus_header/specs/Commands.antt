@@ -1,5 +1,5 @@
 -- Telecommands with a secondary header (ECSS-E-ST-70-41C, 7.4.4), as lists of octets.
-use Rattle.std.specs.Prelude.{◌≡◌, ◌≤◌, ◌==◌, ◌||◌, ◌%◌, ℕ, nat_lt, true, not, if◌then◌else◌, List, length, slice_index, Option, Some, None}
+use Rattle.std.specs.Prelude.{◌≡◌, ◌≤◌, ◌==◌, ◌||◌, ◌%◌, ℕ, nat_lt, true, not, if◌then◌else◌, List, length, take, slice_index, Option, Some, None}
 use Rattle.octet_fields.specs.Fields.{field}
 use Rattle.space_packet.specs.Packet.{has_secondary, is_command}
 use Rattle.pus_header.specs.Keys.{pus_version}
@@ -25,6 +25,10 @@ subtype_of octets = slice_index octets 8
 
 abbrev pub source_of : List ℕ → ℕ
 source_of octets = field 2 9 octets
+
+-- the request identifier, by which reports of service 1 name a request, whatever packet that is
+abbrev pub identifier_of : List ℕ → List ℕ
+identifier_of packet = take 4 packet
 
 -- the first fault of a packet as a telecommand
 abbrev pub tc_fault_of : List ℕ → Option TcFault

@@ -1,7 +1,14 @@
 // Telecommands, as views of their packets.
-ghost use Rattle.std.specs.Prelude.{◌≡◌, take, drop};
+ghost use Rattle.std.specs.Prelude.{◌≡◌, drop};
 ghost use Rattle.space_packet.specs.View.{octets_of};
-ghost use Rattle.pus_header.specs.Commands.{IsCommandPacket, acks_of, service_of, source_of, subtype_of};
+ghost use Rattle.pus_header.specs.Commands.{
+  IsCommandPacket,
+  acks_of,
+  identifier_of,
+  service_of,
+  source_of,
+  subtype_of,
+};
 
 use octet_fields::u16_at;
 use space_packet::PacketView;
@@ -14,6 +21,15 @@ pub(crate) const HEADERS: usize = 11;
 pub struct TcView<'a> {
     packet: PacketView<'a>,
     ghost header: { IsCommandPacket (octets_of packet) },
+}
+
+/// The request identifier of a packet, as reports of service 1 name a request (8.1.2.1): its first four
+/// octets.
+pub fn identifier_of(packet: PacketView<'_>) -> [u8; 4]
+    ensures { result ≡ identifier_of (octets_of packet.entry) }
+{
+    let bytes = packet.bytes();
+    [bytes[0], bytes[1], bytes[2], bytes[3]]
 }
 
 impl<'a> TcView<'a> {
@@ -55,13 +71,11 @@ impl<'a> TcView<'a> {
         u16_at(self.packet.bytes(), 9)
     }
 
-    /// The request identifier, as reports of service 1 name it (8.1.2.1): the packet's first four
-    /// octets.
+    /// The request identifier of its packet.
     pub fn request_id(&self) -> [u8; 4]
-        ensures { result ≡ take 4 (command_octets self.now) }
+        ensures { result ≡ identifier_of (command_octets self.now) }
     {
-        let bytes = self.packet.bytes();
-        [bytes[0], bytes[1], bytes[2], bytes[3]]
+        identifier_of(self.packet)
     }
 
     /// The application data: what follows the secondary header, maybe nothing.

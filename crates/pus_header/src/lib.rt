@@ -9,7 +9,7 @@ mod laws;
 mod reading;
 mod reports;
 
-pub use commands::TcView;
+pub use commands::{TcView, identifier_of};
 pub use faults::TcFault;
 pub use keys::key_of;
 pub use laws::{command_or_fault, kind_or_none, report_reads_back};

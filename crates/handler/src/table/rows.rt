@@ -4,10 +4,10 @@ ghost use Rattle.pst_model.specs.Contents.{config_of, status_of, summary_asked, 
 ghost use Rattle.pst_model.specs.Instructions.{is_named};
 ghost use Rattle.pst_model.specs.Reports.{HasTimes};
 
-use super::{CHANNEL, MemTable};
-use crate::packets::{Packet, SIZE};
-use crate::refusal::BOOT_STORE;
-use control_defs::{Instruction, StoreKind};
+use super::MemTable;
+use crate::boot_store::{BOOT_STORE, CHANNEL, KIND, SIZE};
+use crate::packets::Packet;
+use control_defs::Instruction;
 use pus_report::{ConfigRow, StatusRow, SummaryRow};
 
 // The storage time of a packet, or 0.
@@ -74,7 +74,7 @@ impl MemTable {
     {
         ConfigRow {
             store: BOOT_STORE,
-            kind: StoreKind::Circular,
+            kind: KIND,
             size: SIZE,
             channel: CHANNEL,
         }

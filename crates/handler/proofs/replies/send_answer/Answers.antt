@@ -14,7 +14,7 @@ returns-in_err-first-clause-breaks g c =
     on_err c.from_residual.result
     (λ (number : ℕ).
     subst (λ (step : Step). BreaksIn means c.args.board.now c.send_verdicts.new.board step.outputs)
-    (answered_in_parts number c.args.moment c.args.request (table_of c.args.table.now) _ _ c.args.decision.now c.as_slice.result.now c.args.decision.now.after.items c.as_slice.ensures.value refl c.args.table.now.counted refl refl)
+    (answered_in_parts number c.args.moment c.args.request (table_of c.args.table.now) _ _ c.args.outcome.now c.as_slice.result.now c.args.outcome.now.after.items c.as_slice.ensures.value refl c.args.table.now.counted refl refl)
     (breaks_early means c.args.board.now c.send_verdicts.new.board _ _
     (breaks_early means c.args.board.now c.send_verdicts.new.board _ _ (c.in_err-first.ensures.breaks number))))
 
@@ -24,7 +24,7 @@ returns-in_err-content-clause-breaks g c =
     on_err c.from_residual-in_err-content.result
     (λ (number : ℕ).
     subst (λ (step : Step). BreaksIn means c.args.board.now c.send_content.new.board step.outputs)
-    (answered_in_parts number c.args.moment c.args.request (table_of c.args.table.now) (table_of c.send_verdicts.new.table) _ c.args.decision.now c.as_slice.result.now c.args.decision.now.after.items
+    (answered_in_parts number c.args.moment c.args.request (table_of c.args.table.now) (table_of c.send_verdicts.new.table) _ c.args.outcome.now c.as_slice.result.now c.args.outcome.now.after.items
     c.as_slice.ensures.value refl c.args.table.now.counted (c.in_ok-first.ensures.table number) refl)
     (breaks_early means c.args.board.now c.send_content.new.board _ _
     (breaks_on means c.args.board.now c.send_verdicts.new.board c.send_content.new.board _ _ (c.in_ok-first.ensures.sends number) (c.in_err-content.ensures.breaks number))))
@@ -35,7 +35,7 @@ returns-in_err-last-clause-breaks g c =
     on_err c.from_residual-in_err-last.result
     (λ (number : ℕ).
     subst (λ (step : Step). BreaksIn means c.args.board.now c.send_verdicts-2.new.board step.outputs)
-    (answered_in_parts number c.args.moment c.args.request (table_of c.args.table.now) (table_of c.send_verdicts.new.table) (table_of c.send_content.new.table) c.args.decision.now c.as_slice.result.now c.as_slice-2.result.now
+    (answered_in_parts number c.args.moment c.args.request (table_of c.args.table.now) (table_of c.send_verdicts.new.table) (table_of c.send_content.new.table) c.args.outcome.now c.as_slice.result.now c.as_slice-2.result.now
     c.as_slice.ensures.value c.as_slice-2.ensures.value c.args.table.now.counted (c.in_ok-first.ensures.table number) (c.in_ok-content.ensures.table number))
     (breaks_on means c.args.board.now c.send_content.new.board c.send_verdicts-2.new.board _ _
     (lines_on means c.args.board.now c.send_verdicts.new.board c.send_content.new.board _ _ (c.in_ok-first.ensures.sends number) (c.in_ok-content.ensures.sends number))
@@ -45,14 +45,14 @@ pub returns-clause-table : goal.returns-clause-table
 returns-clause-table g c number =
     c.in_ok-last.ensures.table number
     ∙ ap (λ (step : Step). step.table)
-    (answered_in_parts number c.args.moment c.args.request (table_of c.args.table.now) (table_of c.send_verdicts.new.table) (table_of c.send_content.new.table) c.args.decision.now c.as_slice.result.now c.as_slice-2.result.now
+    (answered_in_parts number c.args.moment c.args.request (table_of c.args.table.now) (table_of c.send_verdicts.new.table) (table_of c.send_content.new.table) c.args.outcome.now c.as_slice.result.now c.as_slice-2.result.now
     c.as_slice.ensures.value c.as_slice-2.ensures.value c.args.table.now.counted (c.in_ok-first.ensures.table number) (c.in_ok-content.ensures.table number))
 
 pub returns-clause-sends : goal.returns-clause-sends
 returns-clause-sends g c number =
     let means = g.B.Board.means in
     subst (λ (step : Step). SendsLines means c.args.board.now c.send_verdicts-2.new.board step.outputs)
-    (answered_in_parts number c.args.moment c.args.request (table_of c.args.table.now) (table_of c.send_verdicts.new.table) (table_of c.send_content.new.table) c.args.decision.now c.as_slice.result.now c.as_slice-2.result.now
+    (answered_in_parts number c.args.moment c.args.request (table_of c.args.table.now) (table_of c.send_verdicts.new.table) (table_of c.send_content.new.table) c.args.outcome.now c.as_slice.result.now c.as_slice-2.result.now
     c.as_slice.ensures.value c.as_slice-2.ensures.value c.args.table.now.counted (c.in_ok-first.ensures.table number) (c.in_ok-content.ensures.table number))
     (lines_on means c.args.board.now c.send_content.new.board c.send_verdicts-2.new.board _ _
     (lines_on means c.args.board.now c.send_verdicts.new.board c.send_content.new.board _ _ (c.in_ok-first.ensures.sends number) (c.in_ok-content.ensures.sends number))
@@ -61,7 +61,7 @@ returns-clause-sends g c number =
 pub returns-clause-counted : goal.returns-clause-counted
 returns-clause-counted g c number =
     subst (λ (step : Step). IsCountOf step.outputs c.and.result)
-    (answered_in_parts number c.args.moment c.args.request (table_of c.args.table.now) (table_of c.send_verdicts.new.table) (table_of c.send_content.new.table) c.args.decision.now c.as_slice.result.now c.as_slice-2.result.now
+    (answered_in_parts number c.args.moment c.args.request (table_of c.args.table.now) (table_of c.send_verdicts.new.table) (table_of c.send_content.new.table) c.args.outcome.now c.as_slice.result.now c.as_slice-2.result.now
     c.as_slice.ensures.value c.as_slice-2.ensures.value c.args.table.now.counted (c.in_ok-first.ensures.table number) (c.in_ok-content.ensures.table number))
     (subst (IsCountOf _) (sym c.and.ensures)
     (counted_on _ _ (and_then c.in_ok-first.first c.in_ok-content.content) c.in_ok-last.last

@@ -11,22 +11,22 @@ pub returns-in-Ok-clause-table : goal.returns-in-Ok-clause-table
 returns-in-Ok-clause-table g c number =
     c.in-Ok.ensures.table number
     ∙ ap (λ (step : Step). step.table)
-    (answered number c.args.moment (octets_of c.args.packet) c.identifier_of-identifier.result (table_of c.args.self.now.table) (table_of c.decide-decision.new.table) c.decide-decision.result
-    c.decide-decision.ensures c.identifier_of-identifier.ensures)
+    (answered number c.args.moment (octets_of c.args.packet) c.identifier_of-identifier.result (table_of c.args.self.now.table) (table_of c.carry_out_request-outcome.new.table) c.carry_out_request-outcome.result
+    c.carry_out_request-outcome.ensures c.identifier_of-identifier.ensures)
 
 pub returns-in-Ok-clause-sends : goal.returns-in-Ok-clause-sends
 returns-in-Ok-clause-sends g c number =
     let means = g.B.Board.means in
     subst (λ (step : Step). SendsLines means c.args.board.now c.send_answer.new.board step.outputs)
-    (answered number c.args.moment (octets_of c.args.packet) c.identifier_of-identifier.result (table_of c.args.self.now.table) (table_of c.decide-decision.new.table) c.decide-decision.result
-    c.decide-decision.ensures c.identifier_of-identifier.ensures)
+    (answered number c.args.moment (octets_of c.args.packet) c.identifier_of-identifier.result (table_of c.args.self.now.table) (table_of c.carry_out_request-outcome.new.table) c.carry_out_request-outcome.result
+    c.carry_out_request-outcome.ensures c.identifier_of-identifier.ensures)
     (c.in-Ok.ensures.sends number)
 
 pub returns-in-Ok-clause-counted : goal.returns-in-Ok-clause-counted
 returns-in-Ok-clause-counted g c number =
     subst (λ (step : Step). IsCountOf step.outputs c.in-Ok.sent)
-    (answered number c.args.moment (octets_of c.args.packet) c.identifier_of-identifier.result (table_of c.args.self.now.table) (table_of c.decide-decision.new.table) c.decide-decision.result
-    c.decide-decision.ensures c.identifier_of-identifier.ensures)
+    (answered number c.args.moment (octets_of c.args.packet) c.identifier_of-identifier.result (table_of c.args.self.now.table) (table_of c.carry_out_request-outcome.new.table) c.carry_out_request-outcome.result
+    c.carry_out_request-outcome.ensures c.identifier_of-identifier.ensures)
     (c.in-Ok.ensures.counted number)
 
 pub returns-in-Err-clause-breaks : goal.returns-in-Err-clause-breaks
@@ -35,6 +35,6 @@ returns-in-Err-clause-breaks g c =
     rw c.close.ensures.fault
     (λ (number : ℕ).
     subst (λ (step : Step). BreaksIn means c.args.board.now c.send_answer.new.board step.outputs)
-    (answered number c.args.moment (octets_of c.args.packet) c.identifier_of-identifier.result (table_of c.args.self.now.table) (table_of c.decide-decision.new.table) c.decide-decision.result
-    c.decide-decision.ensures c.identifier_of-identifier.ensures)
+    (answered number c.args.moment (octets_of c.args.packet) c.identifier_of-identifier.result (table_of c.args.self.now.table) (table_of c.carry_out_request-outcome.new.table) c.carry_out_request-outcome.result
+    c.carry_out_request-outcome.ensures c.identifier_of-identifier.ensures)
     (c.in-Err.ensures.breaks number))

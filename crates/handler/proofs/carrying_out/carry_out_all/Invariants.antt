@@ -2,7 +2,7 @@ use Rattle.std.proofs.Common.{◌≡◌, ◌≤◌, length, take}
 use Rattle.pus_request.specs.View.{listed}
 use Rattle.pst_model.specs.Answers.{carry_out}
 use Rattle.handler.specs.Table.{table_of}
-use Rattle.handler.proofs.deciding.carry_out_all.Given as goal
+use Rattle.handler.proofs.carrying_out.carry_out_all.Given as goal
 
 abbrev pub invariant-loop-at : goal.invariant-loop-at
 invariant-loop-at l = record {

@@ -4,8 +4,8 @@ use Rattle.pst_model.specs.Table.{Table}
 use Rattle.handler.specs.Refusals.{code_of}
 use Rattle.handler.specs.Table.{table_of}
 use Rattle.handler.proofs.Carrying.{one_done, one_failed}
-use Rattle.handler.proofs.deciding.carry_out_all.Goals as goal
-use Rattle.handler.proofs.deciding.carry_out_all.Goals.{in-Err, in_default}
+use Rattle.handler.proofs.carrying_out.carry_out_all.Goals as goal
+use Rattle.handler.proofs.carrying_out.carry_out_all.Goals.{in-Err, in_default}
 
 pub loop-at-preserved : goal.loop-at-preserved
 loop-at-preserved c =

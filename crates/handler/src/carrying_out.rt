@@ -1,8 +1,9 @@
 // What a request does to the table, and what answers it.
 ghost use Rattle.std.specs.Prelude.{◌≡◌, ℕ, false};
 ghost use Rattle.space_packet.specs.View.{octets_of};
+ghost use Rattle.pus_header.specs.Commands.{identifier_of};
 ghost use Rattle.pus_request.specs.View.{asked, listed};
-ghost use Rattle.pst_model.specs.Answers.{answer, carry_out, identifier_of, is_pending, replied};
+ghost use Rattle.pst_model.specs.Answers.{answer, carry_out, is_pending, replied};
 ghost use Rattle.handler.specs.Asked.{reports_in};
 ghost use Rattle.handler.specs.Table.{table_of};
 
@@ -14,7 +15,7 @@ use space_packet::PacketView;
 
 /// What answers a request, in its order.
 #[derive(Drop)]
-pub struct Decision<'a> {
+pub struct Outcome<'a> {
     /// The verdicts in front of the content report.
     pub before: Verdicts,
     /// The instructions whose content report is asked for, where no judgement refused the request.
@@ -38,14 +39,14 @@ fn carry_out_all(table: &mut MemTable, items: &Items<'_>) -> Failures
 }
 
 /// Judges a request, carries out its instructions where no judgement refuses it, and tells what answers it.
-pub fn decide<'a>(table: &mut MemTable, packet: PacketView<'a>) -> Decision<'a>
+pub fn carry_out_request<'a>(table: &mut MemTable, packet: PacketView<'a>) -> Outcome<'a>
     ensures { (number moment : ℕ) → answer number moment (octets_of packet.entry) (table_of table.old)
         ≡ replied number moment (table_of table.new) (reports_in (identifier_of (octets_of packet.entry)) result (table_of table.new)) }
 {
     match judge(packet) {
         Ok(request) => {
             let failures = carry_out_all(table, &request.items);
-            Decision {
+            Outcome {
                 before: verdicts_before(request.acks, failures.as_slice()),
                 asked: Some(request.items),
                 after: completed(request.acks, failures.as_slice()),
@@ -54,7 +55,7 @@ pub fn decide<'a>(table: &mut MemTable, packet: PacketView<'a>) -> Decision<'a>
         Err(refused) => {
             let mut before = Verdicts::new();
             before.push(refused);
-            Decision {
+            Outcome {
                 before,
                 asked: None,
                 after: Verdicts::new(),
