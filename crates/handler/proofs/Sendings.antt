@@ -1,28 +1,17 @@
 -- Lines that are sent, one run behind the other.
-use Rattle.std.proofs.Common.{ℕ, List, [], ◌++◌, refl, sym, ◌∙◌, ap, subst, arith, append_assoc}
+use Rattle.std.proofs.Common.{ℕ, List, [], ◌++◌, length, length-append, refl, sym, ◌∙◌, ap, subst, arith, append_assoc}
 use Rattle.std.proofs.lemmas.List.{append-nil}
-use Rattle.std.specs.Prelude.{IsTrue}
-use Rattle.board.specs.Counts.{Counts, Sends}
-use Rattle.board.specs.Meaning.{BoardMeaning}
+use Rattle.board.specs.Counts.{RoseBy}
+use Rattle.board.specs.Flash.{IsImage}
+use Rattle.board.specs.Meaning.{BoardMeaning, TellsFlash, TellsLink}
 use Rattle.board.specs.Moments.{GainsFront, SendsOnly}
+use Rattle.board.proofs.Reading.{stays_none, stays_on}
 use Rattle.board.proofs.Runs.{gains_more, gains_none, goes_on, links_too, prefix_trans, rose_since, started, weaker}
+use Rattle.board.proofs.Works.{rose_by_both, rose_by_none, sends_most, sends_none, sends_on, tells_too}
 use Rattle.pst_model.specs.Rules.{Output}
 use Rattle.pst_model.specs.Run.{lines_of}
 use Rattle.pst_model.proofs.Runs.{lines_of-append}
 use Rattle.handler.specs.Sending.{BreaksIn, SendsLines}
-
--- calls of the link, one behind the other
-pub sends_on : {old mid new : Counts} → Sends old mid → Sends mid new → Sends old new
-sends_on first second = record {
-  link_faults = omega (arith, first.link_faults, second.link_faults);
-  flash_faults = second.flash_faults ∙ first.flash_faults;
-  reads = second.reads ∙ first.reads;
-  programs = second.programs ∙ first.programs;
-  erases = second.erases ∙ first.erases;
-}
-
-pub sends_none : (counts : Counts) → Sends counts counts
-sends_none counts = record { link_faults = omega arith; flash_faults = refl; reads = refl; programs = refl; erases = refl }
 
 -- a front of the first lines is one of all lines
 front_of : (before : List ℕ) (xs ys : List Output) (octets : List ℕ) → GainsFront before (lines_of xs) octets
@@ -34,17 +23,20 @@ front_of before xs ys octets gains = record {
 }
 
 module _ {B : Type 0} (means : BoardMeaning B) where
-  pub lines_none : (board : B) → SendsLines means board board []
-  lines_none board = record {
+  pub lines_none : (board : B) → ((image : ℕ → List ℕ) → TellsFlash means board → means.images board (means.moment board) image
+      → IsImage (means.device board).blocks (means.flash board) image) → SendsLines means board board []
+  lines_none board now = record {
     gained = λ told. sym (append-nil (means.sent board (means.moment board)));
     moments = λ told. started means board (GainsFront (means.sent board (means.moment board)) []) (gains_none (means.sent board (means.moment board)) []);
+    stays = λ told. stays_none means board (λ image left. now image told left);
     same = refl;
     work = sends_none (means.counts board);
+    calls = rose_by_none (means.counts board).sends (means.counts board).sends (omega arith);
     no_fault = refl;
   }
 
   -- the moments of lines that were sent, and of others behind them
-  moments_on : (old mid new : B) (xs ys : List Output) → SendsLines means old mid xs → IsTrue (means.device old).tells_link
+  moments_on : (old mid new : B) (xs ys : List Output) → SendsLines means old mid xs → TellsLink means old
       → SendsOnly means mid new (GainsFront (means.sent mid (means.moment mid)) (lines_of ys))
       → SendsOnly means old new (GainsFront (means.sent old (means.moment old)) (lines_of (xs ++ ys)))
   moments_on old mid new xs ys first told second =
@@ -60,8 +52,11 @@ module _ {B : Type 0} (means : BoardMeaning B) where
     gained = λ told. second.gained (links_too first.same told) ∙ ap (λ (octets : List ℕ). octets ++ lines_of ys) (first.gained told)
         ∙ append_assoc (means.sent old (means.moment old)) (lines_of xs) (lines_of ys) ∙ ap (λ (octets : List ℕ). means.sent old (means.moment old) ++ octets) (sym (lines_of-append xs ys));
     moments = λ told. moments_on old mid new xs ys first told (second.moments (links_too first.same told));
+    stays = λ told. stays_on means old mid new first.same (first.stays told) (second.stays (tells_too first.same told));
     same = second.same ∙ first.same;
-    work = sends_on first.work second.work;
+    work = sends_most (sends_on first.work second.work) (omega (arith, length-append xs ys));
+    calls = subst (λ n. RoseBy n (means.counts old).sends (means.counts new).sends) (sym (length-append xs ys))
+        (rose_by_both (length xs) (length ys) (means.counts old).sends (means.counts mid).sends (means.counts new).sends first.calls second.calls);
     no_fault = second.no_fault ∙ first.no_fault;
   }
 
@@ -70,8 +65,9 @@ module _ {B : Type 0} (means : BoardMeaning B) where
       → BreaksIn means old new (xs ++ ys)
   breaks_on old mid new xs ys first second = record {
     moments = λ told. moments_on old mid new xs ys first told (second.moments (links_too first.same told));
+    stays = λ told. stays_on means old mid new first.same (first.stays told) (second.stays (tells_too first.same told));
     same = second.same ∙ first.same;
-    work = sends_on first.work second.work;
+    work = sends_most (sends_on first.work second.work) (omega (arith, length-append xs ys));
     cause = rose_since (means.counts old).link_faults (means.counts mid).link_faults (means.counts new).link_faults first.work.link_faults second.cause;
   }
 
@@ -79,7 +75,8 @@ module _ {B : Type 0} (means : BoardMeaning B) where
   pub breaks_early : (old new : B) (xs ys : List Output) → BreaksIn means old new xs → BreaksIn means old new (xs ++ ys)
   breaks_early old new xs ys breaks = record {
     moments = λ told. weaker means old new _ _ (breaks.moments told) (front_of (means.sent old (means.moment old)) xs ys);
+    stays = breaks.stays;
     same = breaks.same;
-    work = breaks.work;
+    work = sends_most breaks.work (omega (arith, length-append xs ys));
     cause = breaks.cause;
   }

@@ -1,23 +1,40 @@
 -- What a run of sends does with the lines of outputs.
-use Rattle.std.specs.Prelude.{◌≡◌, ◌++◌, List, IsTrue}
-use Rattle.board.specs.Counts.{Rose, Sends}
-use Rattle.board.specs.Meaning.{BoardMeaning}
+use Rattle.std.specs.Prelude.{◌≡◌, ◌++◌, ℕ, List, length}
+use Rattle.board.specs.Counts.{Rose, RoseBy, Sends}
+use Rattle.board.specs.Meaning.{BoardMeaning, TellsFlash, TellsLink}
 use Rattle.board.specs.Moments.{GainsFront, SendsOnly}
-use Rattle.pst_model.specs.Rules.{Output}
+use Rattle.board.specs.Reads.{FlashStays}
+use Rattle.pst_model.specs.Rules.{Output, Step}
 use Rattle.pst_model.specs.Run.{lines_of}
+use Rattle.pst_model.specs.Table.{Table}
+use Rattle.handler.specs.declared.sent.Sent.{Sent}
+use Rattle.handler.specs.Counting.{IsCountOf}
 
 module _ {B : Type 0} (means : BoardMeaning B) where
-  -- All lines of the outputs were sent, one behind the other, and no call failed.
+  -- All lines of the outputs were sent, one behind the other and each by a call of its own, and no call failed.
+  -- The flash is as it was.
   pub record SendsLines (old new : B) (outputs : List Output) : Type 0 where
-    pub gained : IsTrue (means.device old).tells_link → means.sent new (means.moment new) ≡ means.sent old (means.moment old) ++ lines_of outputs
-    pub moments : IsTrue (means.device old).tells_link → SendsOnly means old new (GainsFront (means.sent old (means.moment old)) (lines_of outputs))
+    pub gained : TellsLink means old
+        → means.sent new (means.moment new) ≡ means.sent old (means.moment old) ++ lines_of outputs
+    pub moments : TellsLink means old
+        → SendsOnly means old new (GainsFront (means.sent old (means.moment old)) (lines_of outputs))
+    pub stays : TellsFlash means old → FlashStays means old new
     pub same : means.device new ≡ means.device old
-    pub work : Sends (means.counts old) (means.counts new)
+    pub work : Sends (length outputs) (means.counts old) (means.counts new)
+    pub calls : RoseBy (length outputs) (means.counts old).sends (means.counts new).sends
     pub no_fault : (means.counts new).link_faults ≡ (means.counts old).link_faults
 
-  -- The link failed within the lines of the outputs: a front of them was sent.
+  -- The link failed within the lines of the outputs: a front of them was sent, by at most a call for each.
   pub record BreaksIn (old new : B) (outputs : List Output) : Type 0 where
-    pub moments : IsTrue (means.device old).tells_link → SendsOnly means old new (GainsFront (means.sent old (means.moment old)) (lines_of outputs))
+    pub moments : TellsLink means old
+        → SendsOnly means old new (GainsFront (means.sent old (means.moment old)) (lines_of outputs))
+    pub stays : TellsFlash means old → FlashStays means old new
     pub same : means.device new ≡ means.device old
-    pub work : Sends (means.counts old) (means.counts new)
+    pub work : Sends (length outputs) (means.counts old) (means.counts new)
     pub cause : Rose (means.counts old).link_faults (means.counts new).link_faults
+
+  -- A command with this step was carried out: the table behind it, all its lines, and their numbers.
+  pub record CarriesOut (old new : B) (step : ℕ → Step) (after : Table) (sent : Sent) : Type 0 where
+    pub table : (number : ℕ) → after ≡ (step number).table
+    pub sends : (number : ℕ) → SendsLines old new (step number).outputs
+    pub counted : (number : ℕ) → IsCountOf (step number).outputs sent

@@ -1,5 +1,6 @@
 -- The table that is kept in memory.
 use Rattle.std.specs.Prelude.{◌≡◌, ◌<◌, ◌==◌, ◌&&◌, ℕ, Bool, true, not, List, [], ◌∷◌, length}
+use Rattle.std.specs.List.{list_any}
 use Rattle.space_packet.specs.Packet.{apid_of}
 use Rattle.control_defs.specs.declared.patterns.Pattern.{Pattern}
 use Rattle.pus_header.specs.Keys.{key_of}
@@ -37,3 +38,8 @@ pub record HasNext (table : MemTable) : Type 0 where
 -- an arriving packet is not idle, and these patterns cover its key
 abbrev pub is_chosen : List Pattern → (packet : List ℕ) → Bool
 is_chosen patterns packet = not (apid_of packet == 2047) && any_covers patterns (key_of packet)
+
+-- an arriving packet is not idle, and a store whose storage is on stores its key
+abbrev pub is_stored : (packet : List ℕ) → Table → Bool
+is_stored packet table =
+    not (apid_of packet == 2047) && list_any (λ (store : Store). store.storage && any_covers store.patterns (key_of packet)) table.stores

@@ -77,6 +77,8 @@ impl Handler {
     ghost use Rattle.pst_model.specs.Table.{after_format};
     ghost use Rattle.handler.specs.Faults.{OnLink, OnNoMemory};
     ghost use Rattle.handler.specs.Handler.{is_open, table_in};
+    ghost use Rattle.handler.specs.Sending.{CarriesOut};
+    ghost use Rattle.handler.specs.Table.{is_stored};
 
     /// A handler of the table after a format, which is open.
     pub fn new(alloc: Global) -> Result<Handler, AllocError>
@@ -98,7 +100,7 @@ impl Handler {
     }
 
     /// Carries out the arrival of a packet at a moment below 2^48, and forwards it on channel 0 where a forward
-    /// pattern covers its key. `NoMemory`: nothing of it was done. `Link`: the link failed, and the handler
+    /// pattern covers its key. `NoMemory`: the packet is one that is stored, and nothing of it was done. `Link`: the link failed, and the handler
     /// is closed.
     pub fn arrival<B: Board>(
         &mut self,
@@ -109,11 +111,12 @@ impl Handler {
     ) -> Result<Sent, HandlerFault>
         requires open { IsTrue (is_open self.old) }
         requires moment { moment < 2 ^ 48 }
-        ensures table { OnOk result ((number : ℕ) → table_in self.new ≡ (arrive number moment (octets_of packet.entry) (table_in self.old)).table) }
-        ensures sends { OnOk result ((number : ℕ) → SendsLines B.means board.old board.new (arrive number moment (octets_of packet.entry) (table_in self.old)).outputs) }
-        ensures counted { IfOk result (λ sent. (number : ℕ) → IsCountOf (arrive number moment (octets_of packet.entry) (table_in self.old)).outputs sent) }
-        ensures breaks { OnLink result ((number : ℕ) → BreaksIn B.means board.old board.new (arrive number moment (octets_of packet.entry) (table_in self.old)).outputs) }
+        ensures done { IfOk result (CarriesOut B.means board.old board.new
+            (λ number. arrive number moment (octets_of packet.entry) (table_in self.old)) (table_in self.new)) }
+        ensures breaks { OnLink result ((number : ℕ) → BreaksIn B.means board.old board.new
+            (arrive number moment (octets_of packet.entry) (table_in self.old)).outputs) }
         ensures nothing { OnNoMemory result ((board.new ≡ board.old) × (table_in self.new ≡ table_in self.old)) }
+        ensures stored { OnNoMemory result (IsTrue (is_stored (octets_of packet.entry) (table_in self.old))) }
         ensures open { OnOk result (is_open self.new ≡ true) }
         ensures closed { OnLink result (is_open self.new ≡ false) }
         ensures stays_open { OnNoMemory result (is_open self.new ≡ true) }
@@ -143,11 +146,10 @@ impl Handler {
     ) -> Result<Sent, HandlerFault>
         requires open { IsTrue (is_open self.old) }
         requires moment { moment < 2 ^ 48 }
-        ensures table { OnOk result ((number : ℕ) → table_in self.new ≡ (answer number moment (octets_of packet.entry) (table_in self.old)).table) }
-        ensures sends { OnOk result ((number : ℕ) → SendsLines B.means board.old board.new (answer number moment (octets_of packet.entry) (table_in self.old)).outputs) }
-        ensures counted { IfOk result (λ sent. (number : ℕ) → IsCountOf (answer number moment (octets_of packet.entry) (table_in self.old)).outputs sent) }
-        ensures breaks { OnLink result ((number : ℕ) → BreaksIn B.means board.old board.new (answer number moment (octets_of packet.entry) (table_in self.old)).outputs) }
-        ensures nothing { OnNoMemory result ((board.new ≡ board.old) × (table_in self.new ≡ table_in self.old)) }
+        ensures done { IfOk result (CarriesOut B.means board.old board.new
+            (λ number. answer number moment (octets_of packet.entry) (table_in self.old)) (table_in self.new)) }
+        ensures breaks { OnLink result ((number : ℕ) → BreaksIn B.means board.old board.new
+            (answer number moment (octets_of packet.entry) (table_in self.old)).outputs) }
         ensures faults { OnErr result (result ≡ Err HandlerFault.Link) }
         ensures open { is_open self.new ≡ is_ok result }
     {
@@ -171,11 +173,10 @@ impl Handler {
     pub fn grant<B: Board>(&mut self, board: &mut B, moment: u64) -> Result<Sent, HandlerFault>
         requires open { IsTrue (is_open self.old) }
         requires moment { moment < 2 ^ 48 }
-        ensures table { OnOk result ((number : ℕ) → table_in self.new ≡ (grant number (table_in self.old)).table) }
-        ensures sends { OnOk result ((number : ℕ) → SendsLines B.means board.old board.new (grant number (table_in self.old)).outputs) }
-        ensures counted { IfOk result (λ sent. (number : ℕ) → IsCountOf (grant number (table_in self.old)).outputs sent) }
-        ensures breaks { OnLink result ((number : ℕ) → BreaksIn B.means board.old board.new (grant number (table_in self.old)).outputs) }
-        ensures nothing { OnNoMemory result ((board.new ≡ board.old) × (table_in self.new ≡ table_in self.old)) }
+        ensures done { IfOk result (CarriesOut B.means board.old board.new
+            (λ number. grant number (table_in self.old)) (table_in self.new)) }
+        ensures breaks { OnLink result ((number : ℕ) → BreaksIn B.means board.old board.new
+            (grant number (table_in self.old)).outputs) }
         ensures faults { OnErr result (result ≡ Err HandlerFault.Link) }
         ensures open { is_open self.new ≡ is_ok result }
     {

@@ -54,7 +54,7 @@ impl MemTable {
     ghost use Rattle.control_defs.specs.Instructions.{IsInstruction};
     ghost use Rattle.control_defs.specs.Lists.{IsPatternList};
     ghost use Rattle.handler.specs.Refusals.{code_of};
-    ghost use Rattle.handler.specs.Table.{HasNext, is_chosen, store_in, store_of, table_of, table_with};
+    ghost use Rattle.handler.specs.Table.{HasNext, is_chosen, is_stored, store_in, store_of, table_of, table_with};
     ghost use Rattle.pst_model.specs.Answers.{is_carried};
     ghost use Rattle.pst_model.specs.Instructions.{instruct};
     ghost use Rattle.pst_model.specs.Reports.{count_behind};
@@ -121,6 +121,7 @@ impl MemTable {
         requires { moment < 2 ^ 48 }
         ensures table { OnOk result ((number : ℕ) → table_of self.new ≡ (arrive number moment (octets_of packet.entry) (table_of self.old)).table) }
         ensures kept { OnErr result (table_of self.new ≡ table_of self.old) }
+        ensures stored { OnErr result (IsTrue (is_stored (octets_of packet.entry) (table_of self.old))) }
     {
         let now = self.clock.max(moment);
         if self.takes(&packet) {

@@ -13,12 +13,19 @@ use Rattle.handler.proofs.Answering.{counted_one, reply-held}
 use Rattle.handler.proofs.Sendings.{lines_none}
 use Rattle.handler.proofs.replies.send_content.Goals as goal
 
+pub returns-in_default-clause-sends : goal.returns-in_default-clause-sends
+returns-in_default-clause-sends g c number =
+    let means = g.B.Board.means in
+    let old = c.args.board.now in
+    subst (λ (asked : Option Items). SendsLines means old old (replies_from number c.args.moment c.args.table.now.reports (content_asked asked (table_of c.args.table.now))))
+    (sym c.in_default.is) (lines_none means old (λ image told left. g.met.B.Board.images_now old image told left))
+
 pub returns-in_default-write_content-clause-sends : goal.returns-in_default-write_content-clause-sends
 returns-in_default-write_content-clause-sends g c number =
     let means = g.B.Board.means in
     subst (λ (reports : List Report). SendsLines means c.args.board.now c.args.board.now (replies_from number c.args.moment c.args.table.now.reports reports))
     (sym (ap (λ (asked : Option Items). content_asked asked (table_of c.args.table.now)) c.in-Some.is ∙ c.in_default-write_content.ensures.none))
-    (lines_none means c.args.board.now)
+    (lines_none means c.args.board.now (λ image told left. g.met.B.Board.images_now c.args.board.now image told left))
 
 pub returns-in_err-octets-clause-breaks : goal.returns-in_err-octets-clause-breaks
 returns-in_err-octets-clause-breaks g c =

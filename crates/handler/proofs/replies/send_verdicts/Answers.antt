@@ -1,4 +1,4 @@
-use Rattle.std.proofs.Common.{◌≡◌, ℕ, ◌+◌, List, [], ◌∷◌, ◌++◌, length, map, drop, get_or, sym, ◌∙◌, ap, subst, arith}
+use Rattle.std.proofs.Common.{◌≡◌, ℕ, ◌+◌, List, [], ◌∷◌, ◌++◌, length, map, drop, get_or, sym, ◌∙◌, ap, subst, arith, rules}
 use Rattle.std.proofs.lemmas.List.{take_all}
 use Rattle.session_text.proofs.Buffers.{on_err}
 use Rattle.pst_model.specs.declared.verdicts.Verdict.{Verdict}
@@ -13,8 +13,21 @@ use Rattle.handler.specs.Counting.{IsCountOf}
 use Rattle.handler.specs.Sending.{BreaksIn, SendsLines}
 use Rattle.handler.specs.Table.{table_of}
 use Rattle.handler.proofs.Replying.{counted_more, replies-more, replies-split}
-use Rattle.handler.proofs.Sendings.{breaks_early, breaks_on, lines_on}
+use Rattle.handler.proofs.Sendings.{breaks_early, breaks_on, lines_none, lines_on}
 use Rattle.handler.proofs.replies.send_verdicts.Goals as goal
+
+pub loop-verdict-init : goal.loop-verdict-init
+loop-verdict-init g c =
+    let old = c.args.board.now in
+    record {
+      table = search rules;
+      sends = λ number. lines_none g.B.Board.means old (λ image told left. g.met.B.Board.images_now old image told left);
+      counted = search rules;
+      forwarded = search rules;
+      retrieved = search rules;
+      replies = search rules;
+      octets = search rules;
+    }
 
 pub returns-in_err-octets-clause-breaks : goal.returns-in_err-octets-clause-breaks
 returns-in_err-octets-clause-breaks g c =

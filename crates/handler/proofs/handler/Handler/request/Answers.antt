@@ -7,27 +7,17 @@ use Rattle.handler.specs.Table.{table_of}
 use Rattle.handler.proofs.Answered.{answered}
 use Rattle.handler.proofs.handler.Handler.request.Goals as goal
 
-pub returns-in-Ok-clause-table : goal.returns-in-Ok-clause-table
-returns-in-Ok-clause-table g c number =
-    c.in-Ok.ensures.table number
-    ∙ ap (λ (step : Step). step.table)
-    (answered number c.args.moment (octets_of c.args.packet) c.identifier_of-identifier.result (table_of c.args.self.now.table) (table_of c.carry_out_request-outcome.new.table) c.carry_out_request-outcome.result
-    c.carry_out_request-outcome.ensures c.identifier_of-identifier.ensures)
-
-pub returns-in-Ok-clause-sends : goal.returns-in-Ok-clause-sends
-returns-in-Ok-clause-sends g c number =
+pub returns-in-Ok-clause-done : goal.returns-in-Ok-clause-done
+returns-in-Ok-clause-done g c =
     let means = g.B.Board.means in
-    subst (λ (step : Step). SendsLines means c.args.board.now c.send_answer.new.board step.outputs)
-    (answered number c.args.moment (octets_of c.args.packet) c.identifier_of-identifier.result (table_of c.args.self.now.table) (table_of c.carry_out_request-outcome.new.table) c.carry_out_request-outcome.result
-    c.carry_out_request-outcome.ensures c.identifier_of-identifier.ensures)
-    (c.in-Ok.ensures.sends number)
-
-pub returns-in-Ok-clause-counted : goal.returns-in-Ok-clause-counted
-returns-in-Ok-clause-counted g c number =
-    subst (λ (step : Step). IsCountOf step.outputs c.in-Ok.sent)
-    (answered number c.args.moment (octets_of c.args.packet) c.identifier_of-identifier.result (table_of c.args.self.now.table) (table_of c.carry_out_request-outcome.new.table) c.carry_out_request-outcome.result
-    c.carry_out_request-outcome.ensures c.identifier_of-identifier.ensures)
-    (c.in-Ok.ensures.counted number)
+    let is = λ (number : ℕ).
+    answered number c.args.moment (octets_of c.args.packet) c.identifier_of-identifier.result (table_of c.args.self.now.table) (table_of c.carry_out_request-outcome.new.table) c.carry_out_request-outcome.result
+    c.carry_out_request-outcome.ensures c.identifier_of-identifier.ensures in
+    record {
+      table = λ number. c.in-Ok.ensures.table number ∙ ap (λ (step : Step). step.table) (is number);
+      sends = λ number. subst (λ (step : Step). SendsLines means c.args.board.now c.send_answer.new.board step.outputs) (is number) (c.in-Ok.ensures.sends number);
+      counted = λ number. subst (λ (step : Step). IsCountOf step.outputs c.in-Ok.sent) (is number) (c.in-Ok.ensures.counted number);
+    }
 
 pub returns-in-Err-clause-breaks : goal.returns-in-Err-clause-breaks
 returns-in-Err-clause-breaks g c =
