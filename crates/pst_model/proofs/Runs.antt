@@ -31,20 +31,16 @@ module _ (table : Table) (done : List Command) where
       let count : 1 + length done ≡ length done + 1 = omega arith in
       run_from-append 1 table done rest ∙ ap (λ (n : ℕ). behind_outputs (run table done).outputs (run_from n (run table done).table rest)) count
 
-  -- one command more: the table behind it, and its lines behind those before it
+  -- one command more: the table behind it, and its outputs behind those before it
   pub run-more_table : (command : Command) → (run table (done ++ command ∷ [])).table ≡ (step (length done + 1) command (run table done).table).table
   run-more_table command = ap (λ (step : Step). step.table) (more (command ∷ []))
 
-  pub run-more_lines : (command : Command)
-      → lines_of (run table (done ++ command ∷ [])).outputs ≡ lines_of (run table done).outputs ++ lines_of (step (length done + 1) command (run table done).table).outputs
-  run-more_lines command =
-      let next = step (length done + 1) command (run table done).table in
-      ap (λ (step : Step). lines_of step.outputs) (more (command ∷ []))
-      ∙ lines_of-append (run table done).outputs (next.outputs ++ [])
-      ∙ ap (λ (outputs : List Output). lines_of (run table done).outputs ++ lines_of outputs) (append-nil next.outputs)
+  pub run-more_outputs : (command : Command)
+      → (run table (done ++ command ∷ [])).outputs ≡ (run table done).outputs ++ (step (length done + 1) command (run table done).table).outputs
+  run-more_outputs command =
+      ap (λ (step : Step). step.outputs) (more (command ∷ []))
+      ∙ ap (λ (outputs : List Output). (run table done).outputs ++ outputs) (append-nil (step (length done + 1) command (run table done).table).outputs)
 
-  -- the lines of fewer commands come first
-  pub lines-prefix : (rest : List Command) → (more : List ℕ) × (lines_of (run table done).outputs ++ more ≡ lines_of (run table (done ++ rest)).outputs)
-  lines-prefix rest =
-      let behind = (run_from (length done + 1) (run table done).table rest).outputs in
-      (lines_of behind, sym (ap (λ (step : Step). lines_of step.outputs) (more rest) ∙ lines_of-append (run table done).outputs behind))
+  -- the outputs of fewer commands come first
+  pub outputs-prefix : (rest : List Command) → (more : List Output) × ((run table done).outputs ++ more ≡ (run table (done ++ rest)).outputs)
+  outputs-prefix rest = ((run_from (length done + 1) (run table done).table rest).outputs, sym (ap (λ (step : Step). step.outputs) (more rest)))

@@ -7,17 +7,18 @@ use Rattle.session_text.specs.declared.command.Command.{Command as View}
 use Rattle.session_text.specs.declared.fault.LineEnd.{LineEnd}
 use Rattle.session_text.specs.declared.fault.LineEnd.TheVariants as ends
 use Rattle.pst_model.specs.declared.faults.LineFault.{LineFault}
-use Rattle.session_text.specs.Lending.{MovesOn, Reader, Tells, next_at}
+use Rattle.session_text.specs.Lending.{MovesOn, Reader, Tells, empty_takes, next_at}
 use Rattle.session_text.specs.Shown.{command_of}
 use Rattle.pst_model.specs.Text.{size_of_next}
 use Rattle.station.specs.declared.ending.Ending.TheVariants.{Done, BadLine, SourceFault}
 use Rattle.station.specs.Session.{Carried, Ended}
 use Rattle.pst_model.specs.Table.{Table}
-use Rattle.station.proofs.Turns.{Advances, ended_bad, ended_done, ended_source}
+use Rattle.station.proofs.Turns.{Advances, Asks, ended_bad, ended_done, ended_source}
 
 -- the answer of a reader, and what it left
 module _ {S : Type 0} (input : SourceMeaning S) (reader reader' : Reader) (source source' : S) (result : Result (Option View) LineEnd)
-    (moves : MovesOn reader reader' (input.tells source) (input.left source) (input.left source') result) (next : IsTrue (input.tells source) → Tells command_of reader (next_at reader (input.left source)) result) where
+    (moves : MovesOn reader reader' (input.tells source) (input.left source) (input.left source') result) (next : IsTrue (input.tells source) → Tells command_of reader (next_at reader (input.left source)) result)
+    (asks : Asks input source source' (empty_takes result)) where
   moves_as : (answer : Result (Option View) LineEnd) → result ≡ answer
       → MovesOn reader reader' (input.tells source) (input.left source) (input.left source') answer
   moves_as answer is = subst (λ (r : Result (Option View) LineEnd). MovesOn reader reader' (input.tells source) (input.left source) (input.left source') r) is moves
@@ -47,19 +48,22 @@ module _ {S : Type 0} (input : SourceMeaning S) (reader reader' : Reader) (sourc
       → reader'.pending ++ input.left source' ≡ reader.pending ++ input.left source
   at_error end is told = (moves_as (Err end) is).text told
 
+  pub asks_as : (answer : Result (Option View) LineEnd) → result ≡ answer → Asks input source source' (empty_takes answer)
+  asks_as answer is = subst (λ (r : Result (Option View) LineEnd). Asks input source source' (empty_takes r)) is asks
+
   module _ {B : Type 0} (means : BoardMeaning B) (first board : B) (origin : S) (table : Table)
-      (carried : Carried means input first board origin source reader table) (same_tells : input.tells source' ≡ input.tells source) (from : input.faults source ≤ input.faults source') where
+      (carried : Carried means input first board origin source reader table) where
     pub done_by : result ≡ Ok None → input.faults source' ≡ input.faults source → Ended means input first board origin source' Done
-    done_by is kept = ended_done means input first board origin source reader table carried source' reader'.pending (at_end is) same_tells from kept (next_as (Ok None) is)
+    done_by is kept = ended_done means input first board origin source reader table carried source' reader'.pending (at_end is) (asks_as (Ok None) is) kept (next_as (Ok None) is)
 
     pub bad_by : (line : ℕ) (why : LineFault) → result ≡ Err (ends.Bad line why) → input.faults source' ≡ input.faults source
         → Ended means input first board origin source' (BadLine line why)
     bad_by line why is kept =
         ended_bad means input first board origin source reader table carried source' reader'.pending line why
-        (at_error (ends.Bad line why) is) same_tells from kept (next_as (Err (ends.Bad line why)) is)
+        (at_error (ends.Bad line why) is) (asks_as (Err (ends.Bad line why)) is) kept (next_as (Err (ends.Bad line why)) is)
 
     pub source_by : result ≡ Err ends.Source → Rose (input.faults source) (input.faults source')
         → Ended means input first board origin source' SourceFault
     source_by is rose =
         ended_source means input first board origin source reader table carried source' reader'.pending
-        (at_error ends.Source is) same_tells from (moves_as (Err ends.Source) is).unended rose
+        (at_error ends.Source is) (asks_as (Err ends.Source) is) (moves_as (Err ends.Source) is).unended rose

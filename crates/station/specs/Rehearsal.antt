@@ -1,14 +1,23 @@
 -- What a session in memory does, with no premise left.
-use Rattle.std.specs.Prelude.{◌≡◌, ◌≢◌, ◌≤◌, ◌++◌, ℕ, true, List}
+use Rattle.std.specs.Prelude.{◌≡◌, ◌≢◌, ◌≤◌, ◌<◌, ◌+◌, ◌*◌, ◌++◌, ℕ, true, List, length, ⊤}
 use Rattle.board.specs.declared.memory.MemBoard.{MemBoard}
 use Rattle.board.specs.declared.memory_source.MemSource.{MemSource}
+use Rattle.board.specs.Counts.{RoseBy}
 use Rattle.board.specs.Flash.{blank}
-use Rattle.board.specs.Memory.{IsNewBoard, counts_of, device_of, moment_of, sent_at}
-use Rattle.board.specs.MemorySource.{IsNewSource, faults_of, left_of}
+use Rattle.board.specs.Memory.{IsNewBoard, counts_of, device_of, flash_of, moment_of, sent_at}
+use Rattle.board.specs.MemorySource.{IsNewSource, faults_of, left_of, takes_made}
 use Rattle.board.specs.Moments.{IsPrefixOf}
+use Rattle.pst_model.specs.Rules.{Output}
+use Rattle.pst_model.specs.Run.{lines_of}
 use Rattle.station.specs.declared.ending.Ending.{Ending}
 use Rattle.station.specs.declared.ending.Ending.TheVariants.{BadWords}
 use Rattle.station.specs.Session.{EndsAsTold, EndsReading, EndsSending, lines_for, read_of, taken_of}
+
+-- The link of this board, which was new, has sent just these outputs, each line by a call of its own.
+pub record HasSent (board : MemBoard) (outputs : List Output) : Type 0 where
+  pub octets : sent_at board (moment_of board) ≡ lines_of outputs
+  pub least : RoseBy (length outputs) 0 (counts_of board).sends
+  pub most : (counts_of board).sends ≤ length outputs
 
 -- A session over a device of this many blocks and this text ended so, on this board and source.
 pub record Rehearsed (blocks : ℕ) (text : List ℕ) (ending : Ending) (board : MemBoard) (source : MemSource) : Type 0 where
@@ -16,9 +25,14 @@ pub record Rehearsed (blocks : ℕ) (text : List ℕ) (ending : Ending) (board :
   pub known : ending ≢ BadWords
   pub taken : text ≡ taken_of text (left_of source) ++ left_of source
   pub reading : EndsReading text (left_of source) ending
-  pub sending : EndsSending text (left_of source) (sent_at board (moment_of board)) ending
+  pub sending : EndsSending text (left_of source) (HasSent board) (λ outputs. ⊤) ending
   -- at every moment
   pub moments : (t : ℕ) → t ≤ moment_of board → IsPrefixOf (sent_at board t) (lines_for (read_of text (left_of source)))
+  -- the flash holds what it held, and no call of it was made
+  pub blank_still : (p : ℕ) → p < 256 * blocks → (flash_of board).content p ≡ blank
+  pub unused : ((counts_of board).reads ≡ 0) × ((counts_of board).programs ≡ 0) × ((counts_of board).erases ≡ 0) × ((counts_of board).barriers ≡ 0)
+  -- the source was asked once more at most than it gave octets
+  pub takes : takes_made source + length (left_of source) ≤ length text + 1
   pub complete : (counts_of board).link_faults ≡ 0 → faults_of source ≡ 0 → EndsAsTold text ending
 
 -- With words that are not known nothing was done on this board and source.

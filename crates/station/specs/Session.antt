@@ -1,9 +1,13 @@
 -- A session: what it has carried out so far, and what its ending says.
-use Rattle.std.specs.Prelude.{◌≡◌, ◌≢◌, ◌⊎◌, ◌≤◌, ◌-◌, ◌++◌, ℕ, Bool, true, List, [], length, take, IsTrue, Some, None, MatchOption, ⊤}
-use Rattle.board.specs.Counts.{Rose}
-use Rattle.board.specs.Meaning.{BoardMeaning, SourceMeaning}
+use Rattle.std.specs.Prelude.{◌≡◌, ◌≢◌, ◌⊎◌, ◌≤◌, ◌+◌, ◌-◌, ◌∷◌, ◌++◌, ℕ, Bool, true, List, [], length, take, IsTrue, Some, None, MatchOption, ⊤}
+use Rattle.board.specs.Counts.{Rose, Sends}
+use Rattle.board.specs.Meaning.{BoardMeaning, SourceMeaning, TellsFlash, TellsLink}
 use Rattle.board.specs.Moments.{GainsFront, SendsOnly}
-use Rattle.pst_model.specs.Command.{Command}
+use Rattle.board.specs.Reads.{FlashStays}
+use Rattle.handler.specs.Sending.{BreaksIn, SendsLines}
+use Rattle.handler.specs.Table.{is_stored}
+use Rattle.pst_model.specs.Command.{Command, Arrival, Grant, Request}
+use Rattle.pst_model.specs.Rules.{Output}
 use Rattle.session_text.specs.Lending.{Reader}
 use Rattle.session_text.specs.Progress.{HasRead}
 use Rattle.pst_model.specs.Text.{bad_read, commands_of, commands_read, first_bad}
@@ -16,9 +20,12 @@ use Rattle.pst_model.specs.Table.{Table, after_format}
 abbrev pub text_limit : ℕ
 text_limit = 1099511627776
 
--- the lines that go out for commands on the table after a format
+-- what goes out for commands on the table after a format, and its lines
+abbrev pub outputs_for : List Command → List Output
+outputs_for commands = (run after_format commands).outputs
+
 abbrev pub lines_for : List Command → List ℕ
-lines_for commands = lines_of (run after_format commands).outputs
+lines_for commands = lines_of (outputs_for commands)
 
 -- the octets that were taken of a text, of which these are left
 abbrev pub taken_of : (text left : List ℕ) → List ℕ
@@ -32,26 +39,40 @@ read_of text left = commands_read text_limit (taken_of text left)
 abbrev pub IsStart : Reader → Type 0
 IsStart reader = reader ≡ record { limit = text_limit; place = 0; number = 0; pending = []; live = true }
 
+-- A command that may want memory: an arrival that is stored.
+abbrev pub IsStoredArrival : Command → Table → Type 0
+IsStoredArrival (Arrival moment packet) table = IsTrue (is_stored packet table)
+IsStoredArrival (Request moment packet) table = ⊥
+IsStoredArrival (Grant moment) table = ⊥
+
+-- Where memory may be wanting, with these commands carried out: none, and nothing was taken of the text; or those
+-- in front of an arrival that is stored.
+pub data StopsAt (text left : List ℕ) (done : List Command) : Type 0 where
+  Unbegun : done ≡ [] → left ≡ text → StopsAt text left done
+  AtArrival : (command : Command) (others : List Command) → done ++ command ∷ others ≡ read_of text left
+      → IsStoredArrival command (run after_format done).table → StopsAt text left done
+
 -- What an ending says of the text, of which these octets are left: at Done it was read to its end and has
--- no bad line, BadLine is its first one, and where the source failed no whole line that was taken is bad.
+-- no bad line, BadLine is its first one, where the source failed no whole line that was taken is bad, and memory
+-- was wanting for the session or for an arrival.
 abbrev pub EndsReading : (text left : List ℕ) → Ending → Type 0
 EndsReading text left Done = (first_bad text_limit text ≡ None) × (left ≡ [])
 EndsReading text left (BadLine line why) = first_bad text_limit text ≡ Some (line, why)
 EndsReading text left SourceFault = bad_read text_limit (taken_of text left) ≡ None
 EndsReading text left LinkFault = ⊤
-EndsReading text left NoMemory = ⊤
+EndsReading text left NoMemory = (done : List Command) × StopsAt text left done
 EndsReading text left BadWords = ⊤
 
--- What an ending says of the octets that the link gained: all lines of the text's commands, of the commands
--- before its first bad line, of the commands read, and of the first of those. (Where the link failed, a front
--- of the lines of the commands read was gained, maybe within a line.)
-abbrev pub EndsSending : (text left gained : List ℕ) → Ending → Type 0
-EndsSending text left gained Done = gained ≡ lines_for (commands_of text_limit text)
-EndsSending text left gained (BadLine line why) = gained ≡ lines_for (commands_of text_limit text)
-EndsSending text left gained SourceFault = gained ≡ lines_for (read_of text left)
-EndsSending text left gained NoMemory = (count : ℕ) × (gained ≡ lines_for (take count (read_of text left)))
-EndsSending text left gained LinkFault = ⊤
-EndsSending text left gained BadWords = gained ≡ []
+-- What an ending says of what was sent: all of the outputs for the text's commands, for the commands before its
+-- first bad line, for the commands read, and for those carried out where memory was wanting. Where the link
+-- failed, it broke within the outputs for the commands read.
+abbrev pub EndsSending : (text left : List ℕ) → (Sent Broken : List Output → Type 0) → Ending → Type 0
+EndsSending text left Sent Broken Done = Sent (outputs_for (commands_of text_limit text))
+EndsSending text left Sent Broken (BadLine line why) = Sent (outputs_for (commands_of text_limit text))
+EndsSending text left Sent Broken SourceFault = Sent (outputs_for (read_of text left))
+EndsSending text left Sent Broken LinkFault = Broken (outputs_for (read_of text left))
+EndsSending text left Sent Broken NoMemory = (done : List Command) × StopsAt text left done × Sent (outputs_for done)
+EndsSending text left Sent Broken BadWords = ⊤
 
 -- What the link may have sent by a moment: what it had sent before, and behind it, where the text is told, a
 -- front of the lines of the commands read.
@@ -67,6 +88,19 @@ EndsAsTold text ending = MatchOption (first_bad text_limit text)
     (λ bad. (ending ≡ BadLine bad.0 bad.1) ⊎ (ending ≡ NoMemory))
 
 module _ {B S : Type 0} (means : BoardMeaning B) (input : SourceMeaning S) where
+  -- What no session changes, and how it calls the outside: the flash is as it was, the link alone was called, and the
+  -- source, where it tells, once for each octet that it gave at most, and once more.
+  pub record Keeps (board board' : B) (source source' : S) : Type 0 where
+    pub device : means.device board' ≡ means.device board
+    pub tells : input.tells source' ≡ input.tells source
+    pub flash : TellsFlash means board → FlashStays means board board'
+    pub sends : ℕ
+    pub work : Sends sends (means.counts board) (means.counts board')
+    pub source_faults : input.faults source ≤ input.faults source'
+    pub takes_from : input.takes source ≤ input.takes source'
+    pub takes_to : IsTrue (input.tells source)
+        → input.takes source' + length (input.left source') ≤ input.takes source + length (input.left source) + 1
+
   -- Since the board and the source at first, these commands were carried out, and no others read.
   pub record Carried (board board' : B) (source source' : S) (reader : Reader) (table : Table) : Type 0 where
     pub done : List Command
@@ -74,27 +108,25 @@ module _ {B S : Type 0} (means : BoardMeaning B) (input : SourceMeaning S) where
     pub limit : reader.limit ≡ text_limit
     pub read : IsTrue (input.tells source) → HasRead (input.left source) done reader (input.left source')
     pub stands : table ≡ (run after_format done).table
-    pub gained : IsTrue (means.device board).tells_link → means.sent board' (means.moment board') ≡ means.sent board (means.moment board) ++ lines_for done
-    pub moments : IsTrue (means.device board).tells_link → SendsOnly means board board' (GainsFront (means.sent board (means.moment board)) (lines_for done))
-    pub same_device : means.device board' ≡ means.device board
-    pub same_tells : input.tells source' ≡ input.tells source
-    pub link_faults : (means.counts board').link_faults ≡ (means.counts board).link_faults
+    pub lines : SendsLines means board board' (outputs_for done)
+    pub tells : input.tells source' ≡ input.tells source
     pub source_faults : input.faults source' ≡ input.faults source
+    pub takes_from : input.takes source ≤ input.takes source'
+    pub takes_to : IsTrue (input.tells source)
+        → input.takes source' + length (input.left source') ≤ input.takes source + length (input.left source)
 
   -- A session that began with the first board and source ended so with the others.
   pub record Ended (board board' : B) (source source' : S) (ending : Ending) : Type 0 where
     pub known : ending ≢ BadWords
-    pub taken : IsTrue (input.tells source) → input.left source ≡ taken_of (input.left source) (input.left source') ++ input.left source'
+    pub taken : IsTrue (input.tells source)
+        → input.left source ≡ taken_of (input.left source) (input.left source') ++ input.left source'
     pub reading : IsTrue (input.tells source) → EndsReading (input.left source) (input.left source') ending
-    pub sending : IsTrue (means.device board).tells_link → IsTrue (input.tells source)
-        → (gained : List ℕ) × (means.sent board' (means.moment board') ≡ means.sent board (means.moment board) ++ gained) × EndsSending (input.left source) (input.left source') gained ending
-    pub moments : IsTrue (means.device board).tells_link
-        → SendsOnly means board board' (MayBeSent (input.tells source) (read_of (input.left source) (input.left source')) (means.sent board (means.moment board)))
+    pub sending : IsTrue (input.tells source) → EndsSending (input.left source) (input.left source')
+        (SendsLines means board board') (BreaksIn means board board') ending
+    pub moments : TellsLink means board → SendsOnly means board board' (MayBeSent (input.tells source)
+        (read_of (input.left source) (input.left source')) (means.sent board (means.moment board)))
     pub link_cause : ending ≡ LinkFault → Rose (means.counts board).link_faults (means.counts board').link_faults
     pub source_cause : ending ≡ SourceFault → Rose (input.faults source) (input.faults source')
     pub link_kept : ending ≢ LinkFault → (means.counts board').link_faults ≡ (means.counts board).link_faults
     pub source_kept : ending ≢ SourceFault → input.faults source' ≡ input.faults source
-    pub same_device : means.device board' ≡ means.device board
-    pub same_tells : input.tells source' ≡ input.tells source
-    pub link_faults : (means.counts board).link_faults ≤ (means.counts board').link_faults
-    pub source_faults : input.faults source ≤ input.faults source'
+    pub keeps : Keeps board board' source source'

@@ -1,6 +1,7 @@
 // One session: the commands of a text carried out on the table after a format, in memory.
-ghost use Rattle.std.specs.Prelude.{◌≡◌, ◌≤◌, ◌<◌, ◌++◌, ◌^◌, ◌↔◌, ℕ, List, true, IsTrue, OnOk, IfSome, IfNone};
+ghost use Rattle.std.specs.Prelude.{◌≡◌, ◌≤◌, ◌<◌, ◌++◌, ◌^◌, ◌↔◌, ℕ, true, IsTrue, OnOk, IfOk, IfSome, IfNone};
 ghost use Rattle.board.specs.Counts.{Rose};
+ghost use Rattle.board.specs.Meaning.{TellsLink};
 ghost use Rattle.board.specs.Moments.{SendsOnly};
 ghost use Rattle.pst_model.specs.Run.{step};
 ghost use Rattle.pst_model.specs.Table.{after_format};
@@ -8,8 +9,8 @@ ghost use Rattle.session_text.specs.Lending.{reader_of};
 ghost use Rattle.session_text.specs.Shown.{command_of, moment_of};
 ghost use Rattle.handler.specs.Faults.{OnLink, OnNoMemory};
 ghost use Rattle.handler.specs.Handler.{is_open, table_in};
-ghost use Rattle.handler.specs.Sending.{BreaksIn, SendsLines};
-ghost use Rattle.station.specs.Session.{Carried, Ended, EndsAsTold, EndsReading, EndsSending, IsStart, MayBeSent, read_of, taken_of};
+ghost use Rattle.handler.specs.Sending.{BreaksIn, CarriesOut, SendsLines};
+ghost use Rattle.station.specs.Session.{Carried, Ended, EndsAsTold, EndsReading, EndsSending, IsStart, IsStoredArrival, Keeps, MayBeSent, read_of, taken_of};
 ghost use Rattle.station.specs.Words.{AreFresh, texts_of};
 
 use crate::ending::Ending;
@@ -31,10 +32,12 @@ fn carry_out<B: Board>(
 ) -> Result<Sent, HandlerFault>
     requires open { IsTrue (is_open handler.old) }
     requires moment { moment_of command < 2 ^ 48 }
-    ensures table { OnOk result ((number : ℕ) → table_in handler.new ≡ (step number (command_of command.entry) (table_in handler.old)).table) }
-    ensures sends { OnOk result ((number : ℕ) → SendsLines B.means board.old board.new (step number (command_of command.entry) (table_in handler.old)).outputs) }
-    ensures breaks { OnLink result ((number : ℕ) → BreaksIn B.means board.old board.new (step number (command_of command.entry) (table_in handler.old)).outputs) }
+    ensures done { IfOk result (CarriesOut B.means board.old board.new
+        (λ number. step number (command_of command.entry) (table_in handler.old)) (table_in handler.new)) }
+    ensures breaks { OnLink result ((number : ℕ) → BreaksIn B.means board.old board.new
+        (step number (command_of command.entry) (table_in handler.old)).outputs) }
     ensures nothing { OnNoMemory result (board.new ≡ board.old) }
+    ensures stored { OnNoMemory result (IsStoredArrival (command_of command.entry) (table_in handler.old)) }
     ensures open { OnOk result (is_open handler.new ≡ true) }
 {
     match command {
@@ -110,28 +113,33 @@ pub fn station<B: Board, S: Source>(
     ensures unchanged { result ≡ Ending.BadWords → (board.new ≡ board.old) × (source.new ≡ source.old) }
 
     // What was taken of the text, and what the ending says of it.
-    ensures taken { IsTrue (S.means.tells source.old) → S.means.left source.old ≡ taken_of (S.means.left source.old) (S.means.left source.new) ++ S.means.left source.new }
-    ensures reading { IsTrue (S.means.tells source.old) → EndsReading (S.means.left source.old) (S.means.left source.new) result }
+    ensures taken { IsTrue (S.means.tells source.old) → S.means.left source.old
+        ≡ taken_of (S.means.left source.old) (S.means.left source.new) ++ S.means.left source.new }
+    ensures reading { IsTrue (S.means.tells source.old)
+        → EndsReading (S.means.left source.old) (S.means.left source.new) result }
 
     // What was sent, at the ending and at every moment.
-    ensures sending { IsTrue (B.means.device board.old).tells_link → IsTrue (S.means.tells source.old)
-        → (gained : List ℕ) × (B.means.sent board.new (B.means.moment board.new) ≡ B.means.sent board.old (B.means.moment board.old) ++ gained)
-        × EndsSending (S.means.left source.old) (S.means.left source.new) gained result }
-    ensures any_moment { IsTrue (B.means.device board.old).tells_link → SendsOnly B.means board.old board.new
-        (MayBeSent (S.means.tells source.old) (read_of (S.means.left source.old) (S.means.left source.new)) (B.means.sent board.old (B.means.moment board.old))) }
+    ensures sending { IsTrue (S.means.tells source.old)
+        → EndsSending (S.means.left source.old) (S.means.left source.new)
+        (SendsLines B.means board.old board.new) (BreaksIn B.means board.old board.new) result }
+    ensures any_moment { TellsLink B.means board.old
+        → SendsOnly B.means board.old board.new (MayBeSent (S.means.tells source.old)
+        (read_of (S.means.left source.old) (S.means.left source.new)) (B.means.sent board.old (B.means.moment board.old))) }
 
     // Where an ending comes from, and that no failure is kept quiet.
-    ensures link_cause { result ≡ Ending.LinkFault → Rose (B.means.counts board.old).link_faults (B.means.counts board.new).link_faults }
+    ensures link_cause { result ≡ Ending.LinkFault
+        → Rose (B.means.counts board.old).link_faults (B.means.counts board.new).link_faults }
     ensures source_cause { result ≡ Ending.SourceFault → Rose (S.means.faults source.old) (S.means.faults source.new) }
-    ensures no_fault { (¬ (result ≡ Ending.LinkFault) → (B.means.counts board.new).link_faults ≡ (B.means.counts board.old).link_faults)
+    ensures no_fault { (¬ (result ≡ Ending.LinkFault)
+        → (B.means.counts board.new).link_faults ≡ (B.means.counts board.old).link_faults)
         × (¬ (result ≡ Ending.SourceFault) → S.means.faults source.new ≡ S.means.faults source.old) }
     ensures complete { AreFresh (texts_of words.now) → IsTrue (S.means.tells source.old)
-        → ¬ (Rose (B.means.counts board.old).link_faults (B.means.counts board.new).link_faults) → ¬ (Rose (S.means.faults source.old) (S.means.faults source.new))
+        → ¬ (Rose (B.means.counts board.old).link_faults (B.means.counts board.new).link_faults)
+        → ¬ (Rose (S.means.faults source.old) (S.means.faults source.new))
         → EndsAsTold (S.means.left source.old) result }
 
-    // What no session changes.
-    ensures same { (B.means.device board.new ≡ B.means.device board.old) × (S.means.tells source.new ≡ S.means.tells source.old) }
-    ensures faults { ((B.means.counts board.old).link_faults ≤ (B.means.counts board.new).link_faults) × (S.means.faults source.old ≤ S.means.faults source.new) }
+    // What no session changes, and how often it calls.
+    ensures keeps { Keeps B.means S.means board.old board.new source.old source.new }
 {
     if !are_fresh(words) {
         return Ending::BadWords;

@@ -6,7 +6,7 @@ pub returns-clause-fresh : goal.returns-clause-fresh
 returns-clause-fresh c fresh =
     let ended = c.station-ending.ensures in
     rehearsed c.args.text.items c.station-ending.result c.args.blocks c.in_ok-board.board c.station-ending.new.board c.new-source.result c.station-ending.new.source c.in_ok-board.ensures c.new-source.ensures
-    ended.same.0 (λ bad. ended.words.0 bad fresh) (ended.taken refl) (ended.reading refl) (ended.sending refl refl) (ended.any_moment refl) (ended.complete fresh refl)
+    (λ bad. ended.words.0 bad fresh) (ended.taken refl) (ended.reading refl) (ended.sending refl) (ended.any_moment refl) (ended.complete fresh refl) ended.keeps
 
 pub returns-clause-other_words : goal.returns-clause-other_words
 returns-clause-other_words c other =

@@ -1,4 +1,5 @@
 use Rattle.std.proofs.Common.{rules}
+use Rattle.handler.proofs.Sendings.{lines_none}
 use Rattle.station.proofs.Turns.{carried_none}
 use Rattle.station.proofs.session.carry_out_all.Goals as goal
 
@@ -7,7 +8,7 @@ commands-init g c =
     let means = g.B.Board.means in
     let input = g.S.Source.means in
     record {
-      carried = carried_none means input c.args.board.now c.args.source.now _ _ c.requires.reader c.requires.table;
+      carried = carried_none means input c.args.board.now c.args.source.now _ _ (lines_none means c.args.board.now (λ image told left. g.met.B.Board.images_now c.args.board.now image told left)) c.requires.reader c.requires.table;
       «open» = search rules;
       live = search rules;
       limit = search rules;

@@ -1,76 +1,86 @@
-use Rattle.std.proofs.Common.{refl, subst, sym, ◌∙◌, ap, arith, Ok, Err}
+use Rattle.std.proofs.Common.{subst, sym, ◌∙◌, ap, Ok, Err, Some}
 use Rattle.session_text.specs.declared.fault.LineEnd.TheVariants.{Bad}
-use Rattle.board.proofs.Runs.{gains_none, started}
-use Rattle.board.specs.Moments.{GainsFront}
-use Rattle.pst_model.specs.Run.{lines_of, step}
-use Rattle.session_text.specs.Lending.{reader_of}
+use Rattle.session_text.specs.Lending.{empty_takes, reader_of}
 use Rattle.session_text.specs.Shown.{command_of}
 use Rattle.handler.specs.Handler.{table_in}
 use Rattle.station.specs.declared.ending.Ending.TheVariants.{NoMemory}
 use Rattle.station.specs.Session.{Ended}
-use Rattle.station.proofs.Answered.{advances, bad_by, done_by, source_by}
-use Rattle.station.proofs.Turns.{ended_link, ended_memory, goes_further}
+use Rattle.station.proofs.Answered.{advances, asks_as, bad_by, done_by, source_by}
+use Rattle.station.proofs.Turns.{Asks, ended_link, ended_memory, goes_further}
+use Rattle.station.proofs.session.take_turn.Given.{Over}
 use Rattle.station.proofs.session.take_turn.Goals as goal
+use Rattle.station.proofs.session.take_turn.Goals.{After-next_line}
+
+-- what the reader asked of the source
+asks : (g : Over) (c : After-next_line g) → Asks g.S.Source.means c.args.source.now c.next_line.new.source (empty_takes c.next_line.result)
+asks g c = record {
+  tells = c.next_line.ensures.same;
+  faults = c.next_line.ensures.faults;
+  takes_from = c.next_line.ensures.takes.0;
+  takes_to = c.next_line.ensures.takes.1;
+}
 
 pub returns-in-Ok-None-clause-ends : goal.returns-in-Ok-None-clause-ends
 returns-in-Ok-None-clause-ends g c first origin carried =
-    let means = g.B.Board.means in
-    let input = g.S.Source.means in
-    done_by input (reader_of c.args.lines.now) (reader_of c.next_line.follows.lender-at-none) c.args.source.now c.next_line.new.source c.next_line.result
-    c.next_line.follows.holds-at-none c.next_line.ensures.next means first c.args.board.now origin (table_in c.args.handler.now)
-    carried c.next_line.ensures.same c.next_line.ensures.faults (c.in-Ok-None.is ∙ ap Ok c.in-Ok-None.field-0-is) c.in-Ok-None.ensures.no_fault
+    let at = goal.at.returns-in-Ok-None-clause-ends g c in
+    done_by g.S.Source.means (reader_of c.args.lines.now) (reader_of c.next_line.follows.lender-at-none) c.args.source.now c.next_line.new.source c.next_line.result
+    c.next_line.follows.holds-at-none c.next_line.ensures.next (asks g at.After-next_line) g.B.Board.means first c.args.board.now origin (table_in c.args.handler.now)
+    carried (c.in-Ok-None.is ∙ ap Ok c.in-Ok-None.field-0-is) c.in-Ok-None.ensures.no_fault
 
 pub returns-in-Err-Bad-clause-ends : goal.returns-in-Err-Bad-clause-ends
 returns-in-Err-Bad-clause-ends g c first origin carried =
-    let means = g.B.Board.means in
-    let input = g.S.Source.means in
-    bad_by input (reader_of c.args.lines.now) (reader_of c.next_line.follows.lender-at-none) c.args.source.now c.next_line.new.source c.next_line.result
-    c.next_line.follows.holds-at-none c.next_line.ensures.next means first c.args.board.now origin (table_in c.args.handler.now)
-    carried c.next_line.ensures.same c.next_line.ensures.faults _ _ (c.in-Err-Bad.is ∙ ap Err (c.in-Err-Bad.field-0-is ∙ (λ j. Bad (sym c.in-Err-Bad.line-is j) (sym c.in-Err-Bad.why-is j)))) (rw c.in-Err-Bad.field-0-is at c.in-Err-Bad.ensures.no_fault)
+    let at = goal.at.returns-in-Err-Bad-clause-ends g c in
+    bad_by g.S.Source.means (reader_of c.args.lines.now) (reader_of c.next_line.follows.lender-at-none) c.args.source.now c.next_line.new.source c.next_line.result
+    c.next_line.follows.holds-at-none c.next_line.ensures.next (asks g at.After-next_line) g.B.Board.means first c.args.board.now origin (table_in c.args.handler.now)
+    carried _ _ (c.in-Err-Bad.is ∙ ap Err (c.in-Err-Bad.field-0-is ∙ (λ j. Bad (sym c.in-Err-Bad.line-is j) (sym c.in-Err-Bad.why-is j)))) (rw c.in-Err-Bad.field-0-is at c.in-Err-Bad.ensures.no_fault)
 
 pub returns-in-Err-Source-clause-ends : goal.returns-in-Err-Source-clause-ends
 returns-in-Err-Source-clause-ends g c first origin carried =
-    let means = g.B.Board.means in
-    let input = g.S.Source.means in
-    source_by input (reader_of c.args.lines.now) (reader_of c.next_line.follows.lender-at-none) c.args.source.now c.next_line.new.source c.next_line.result
-    c.next_line.follows.holds-at-none c.next_line.ensures.next means first c.args.board.now origin (table_in c.args.handler.now)
-    carried c.next_line.ensures.same c.next_line.ensures.faults (c.in-Err-Source.is ∙ ap Err c.in-Err-Source.field-0-is) (rw c.in-Err-Source.field-0-is at c.in-Err-Source.ensures.cause)
+    let at = goal.at.returns-in-Err-Source-clause-ends g c in
+    source_by g.S.Source.means (reader_of c.args.lines.now) (reader_of c.next_line.follows.lender-at-none) c.args.source.now c.next_line.new.source c.next_line.result
+    c.next_line.follows.holds-at-none c.next_line.ensures.next (asks g at.After-next_line) g.B.Board.means first c.args.board.now origin (table_in c.args.handler.now)
+    carried (c.in-Err-Source.is ∙ ap Err c.in-Err-Source.field-0-is) (rw c.in-Err-Source.field-0-is at c.in-Err-Source.ensures.cause)
 
 pub returns-in-Ok-clause-goes_on : goal.returns-in-Ok-clause-goes_on
 returns-in-Ok-clause-goes_on g c first origin carried =
+    let at = goal.at.returns-in-Ok-clause-goes_on g c in
     let means = g.B.Board.means in
     let input = g.S.Source.means in
+    let is = c.in-Ok-Some.is ∙ ap Ok c.in-Ok-Some.field-0-is in
     let reads = advances input (reader_of c.args.lines.now) (reader_of c.next_line.follows.lender-at-none) c.args.source.now c.next_line.new.source c.next_line.result
-    c.next_line.follows.holds-at-none c.next_line.ensures.next c.in-Ok-Some.command (c.in-Ok-Some.is ∙ ap Ok c.in-Ok-Some.field-0-is) in
-    let sends = c.in-Ok.ensures.sends in
+    c.next_line.follows.holds-at-none c.next_line.ensures.next (asks g at.After-next_line) c.in-Ok-Some.command is in
+    let asked = asks_as input (reader_of c.args.lines.now) (reader_of c.next_line.follows.lender-at-none) c.args.source.now c.next_line.new.source c.next_line.result
+    c.next_line.follows.holds-at-none c.next_line.ensures.next (asks g at.After-next_line) (Ok (Some c.in-Ok-Some.command)) is in
     goes_further means input first c.args.board.now origin c.args.source.now (reader_of c.args.lines.now) (table_in c.args.handler.now)
-    carried c.carry_out.new.board c.next_line.new.source (reader_of c.next_line.follows.lender-at-none) (command_of c.in-Ok-Some.command) reads c.next_line.ensures.same c.in-Ok-Some.ensures.no_fault
-    (sends 0).same (sends 0).work.link_faults (λ told number. (sends number).moments told) (sends 0).no_fault (table_in c.carry_out.new.handler) c.in-Ok.ensures.table (λ told number. (sends number).gained told)
+    carried c.next_line.new.source (reader_of c.next_line.follows.lender-at-none) (command_of c.in-Ok-Some.command) reads asked c.in-Ok-Some.ensures.no_fault
+    c.carry_out.new.board (table_in c.carry_out.new.handler) c.in-Ok.ensures.done.table c.in-Ok.ensures.done.sends
 
 pub returns-in-Err-Link-clause-ends : goal.returns-in-Err-Link-clause-ends
 returns-in-Err-Link-clause-ends g c first origin carried =
+    let at = goal.at.returns-in-Err-Link-clause-ends g c in
     let means = g.B.Board.means in
     let input = g.S.Source.means in
+    let is = c.in-Ok-Some.is ∙ ap Ok c.in-Ok-Some.field-0-is in
     let reads = advances input (reader_of c.args.lines.now) (reader_of c.next_line.follows.lender-at-none) c.args.source.now c.next_line.new.source c.next_line.result
-    c.next_line.follows.holds-at-none c.next_line.ensures.next c.in-Ok-Some.command (c.in-Ok-Some.is ∙ ap Ok c.in-Ok-Some.field-0-is) in
-    let breaks = rw c.in-Err-Link.field-0-is at c.in-Err-Link.ensures.breaks in
+    c.next_line.follows.holds-at-none c.next_line.ensures.next (asks g at.After-next_line) c.in-Ok-Some.command is in
+    let asked = asks_as input (reader_of c.args.lines.now) (reader_of c.next_line.follows.lender-at-none) c.args.source.now c.next_line.new.source c.next_line.result
+    c.next_line.follows.holds-at-none c.next_line.ensures.next (asks g at.After-next_line) (Ok (Some c.in-Ok-Some.command)) is in
     ended_link means input first c.args.board.now origin c.args.source.now (reader_of c.args.lines.now) (table_in c.args.handler.now)
-    carried c.carry_out.new.board c.next_line.new.source (reader_of c.next_line.follows.lender-at-none) (command_of c.in-Ok-Some.command) reads c.next_line.ensures.same c.in-Ok-Some.ensures.no_fault
-    (breaks 0).same (breaks 0).work.link_faults (λ told number. (breaks number).moments told) (breaks 0).cause
+    carried c.next_line.new.source (reader_of c.next_line.follows.lender-at-none) (command_of c.in-Ok-Some.command) reads asked c.in-Ok-Some.ensures.no_fault
+    c.carry_out.new.board (rw c.in-Err-Link.field-0-is at c.in-Err-Link.ensures.breaks)
 
 pub returns-in-Err-NoMemory-clause-ends : goal.returns-in-Err-NoMemory-clause-ends
 returns-in-Err-NoMemory-clause-ends g c first origin carried =
+    let at = goal.at.returns-in-Err-NoMemory-clause-ends g c in
     let means = g.B.Board.means in
     let input = g.S.Source.means in
-    let now = c.args.board.now in
+    let is = c.in-Ok-Some.is ∙ ap Ok c.in-Ok-Some.field-0-is in
     let reads = advances input (reader_of c.args.lines.now) (reader_of c.next_line.follows.lender-at-none) c.args.source.now c.next_line.new.source c.next_line.result
-    c.next_line.follows.holds-at-none c.next_line.ensures.next c.in-Ok-Some.command (c.in-Ok-Some.is ∙ ap Ok c.in-Ok-Some.field-0-is) in
+    c.next_line.follows.holds-at-none c.next_line.ensures.next (asks g at.After-next_line) c.in-Ok-Some.command is in
+    let asked = asks_as input (reader_of c.args.lines.now) (reader_of c.next_line.follows.lender-at-none) c.args.source.now c.next_line.new.source c.next_line.result
+    c.next_line.follows.holds-at-none c.next_line.ensures.next (asks g at.After-next_line) (Ok (Some c.in-Ok-Some.command)) is in
     let unused = rw c.in-Err-NoMemory.field-0-is at c.in-Err-NoMemory.ensures.nothing in
     subst (λ b. Ended means input first b origin c.next_line.new.source NoMemory) (sym unused)
-    (ended_memory means input first now origin c.args.source.now (reader_of c.args.lines.now) (table_in c.args.handler.now)
-    carried now c.next_line.new.source (reader_of c.next_line.follows.lender-at-none) (command_of c.in-Ok-Some.command) reads c.next_line.ensures.same c.in-Ok-Some.ensures.no_fault
-    refl (omega arith)
-    (λ told number.
-    let lines = lines_of (step number (command_of c.in-Ok-Some.command) (table_in c.args.handler.now)).outputs in
-    started means now (GainsFront (means.sent now (means.moment now)) lines) (gains_none (means.sent now (means.moment now)) lines))
-    refl (λ told. refl))
+    (ended_memory means input first c.args.board.now origin c.args.source.now (reader_of c.args.lines.now) (table_in c.args.handler.now)
+    carried c.next_line.new.source (reader_of c.next_line.follows.lender-at-none) (command_of c.in-Ok-Some.command) reads asked c.in-Ok-Some.ensures.no_fault
+    (rw c.in-Err-NoMemory.field-0-is at c.in-Err-NoMemory.ensures.stored))
