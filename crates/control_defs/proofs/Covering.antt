@@ -4,7 +4,7 @@ use Rattle.std.proofs.lemmas.Bool.{and_from, and_parts, eqb-true, ne_eqb}
 use Rattle.control_defs.specs.declared.keys.Key.{Key}
 use Rattle.control_defs.specs.declared.patterns.Pattern.{Pattern}
 use Rattle.control_defs.specs.declared.patterns.Pattern.TheVariants.{Every, App, Service, Kind}
-use Rattle.control_defs.specs.Patterns.{HasOctets, IsKey, IsPattern, covers, is_of_kind, is_of_service, pattern_covers}
+use Rattle.control_defs.specs.Patterns.{HasPatternOctets, IsKey, IsPattern, covers, is_of_kind, is_of_service, pattern_covers}
 
 same : (a : ℕ) → (a == a) ≡ true
 same a = eq-eqb a a refl
@@ -60,7 +60,7 @@ is_another zero = refl
 is_another (suc n) = ne_eqb 0 (suc n) (omega arith)
 
 -- a pattern that covers the keys of another covers it
-pub covers_from_keys : (p q : Pattern) → IsPattern q → HasOctets q
+pub covers_from_keys : (p q : Pattern) → IsPattern q → HasPatternOctets q
     → ((key : Key) → IsKey key → covers q key ≡ true → covers p key ≡ true) → pattern_covers p q ≡ true
 covers_from_keys Every q range octets f = refl
 covers_from_keys (App a) Every range octets f =

@@ -51,11 +51,11 @@ IsPattern (Service apid service) = apid ≤ 2047
 IsPattern (Kind apid service subtype) = apid ≤ 2047
 
 -- the service and the subtype in a pattern are octets
-abbrev pub HasOctets : Pattern → Type 0
-HasOctets Every = Unit {0}
-HasOctets (App apid) = Unit {0}
-HasOctets (Service apid service) = service ≤ 255
-HasOctets (Kind apid service subtype) = (service ≤ 255) × (subtype ≤ 255)
+abbrev pub HasPatternOctets : Pattern → Type 0
+HasPatternOctets Every = Unit {0}
+HasPatternOctets (App apid) = Unit {0}
+HasPatternOctets (Service apid service) = service ≤ 255
+HasPatternOctets (Kind apid service subtype) = (service ≤ 255) × (subtype ≤ 255)
 
 -- a kind is of octets
 abbrev pub IsKind : Option (ℕ × ℕ) → Type 0

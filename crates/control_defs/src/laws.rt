@@ -4,14 +4,14 @@ ghost use Rattle.std.specs.Cmp.{IsTotalOrder};
 ghost use Rattle.control_defs.specs.declared.keys.Key.{Key};
 ghost use Rattle.control_defs.specs.declared.patterns.Pattern.{Pattern};
 ghost use Rattle.control_defs.specs.Lists.{IsPatternList, pattern_cmp, with_pattern, without_pattern};
-ghost use Rattle.control_defs.specs.Patterns.{HasOctets, IsKey, IsPattern, any_covers, covers, pattern_covers};
+ghost use Rattle.control_defs.specs.Patterns.{HasPatternOctets, IsKey, IsPattern, any_covers, covers, pattern_covers};
 
 use std::cmp::Ordering;
 
 /// A pattern covers another, whose numbers are in their ranges, exactly where it covers each key that
 /// the other covers.
 pub fn covering_is_inclusion()
-    ensures { (p q : Pattern) → IsPattern q → HasOctets q
+    ensures { (p q : Pattern) → IsPattern q → HasPatternOctets q
         → (pattern_covers p q ≡ true) ↔ ((key : Key) → IsKey key → covers q key ≡ true → covers p key ≡ true) }
 {}
 

@@ -8,6 +8,7 @@ mod laws;
 mod lists;
 mod octets;
 mod patterns;
+mod services;
 
 pub use instructions::{Instruction, StoreKind};
 pub use keys::Key;
@@ -15,6 +16,7 @@ pub use laws::{covering_is_inclusion, lists_stay_lawful, order_is_total};
 pub use lists::{Absent, Limit, Patterns};
 pub use octets::put_pattern;
 pub use patterns::Pattern;
+pub use services::{FORWARDING, STORAGE};
 
 #[cfg(test)]
 mod tests;

@@ -18,7 +18,7 @@ pub struct Absent;
 
 /// What is forwarded, or what a store stores (ECSS-E-ST-70-41C, 6.14 and 6.15): at most 64 patterns, rising
 /// in the order of patterns. None covers another.
-#[derive(Clone, Drop)]
+#[derive(Drop)]
 pub struct Patterns {
     items: ArrayVec<Pattern, 64>,
 }

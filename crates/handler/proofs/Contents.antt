@@ -8,10 +8,7 @@ use Rattle.handler.specs.Kept.{leaving, packets_of, stored_of}
 use Rattle.pst_model.specs.Rules.{has_room}
 use Rattle.pst_model.specs.Table.{Stored, boot_store, content_in}
 use Rattle.pst_model.proofs.Leasts.{least-is}
-
-content_in-append : (xs ys : List Stored) → content_in (xs ++ ys) ≡ content_in xs + content_in ys
-content_in-append [] ys = omega arith
-content_in-append (x ∷ xs) ys = omega (arith, content_in-append xs ys)
+use Rattle.pst_model.proofs.StoredPages.{content_in-append}
 
 -- each packet takes a page at least
 pub length-content : (packets : List Packet) → length packets ≤ content_in (packets_of packets)

@@ -6,16 +6,11 @@ ghost use Rattle.pus_request.specs.View.{asked, listed};
 ghost use Rattle.pst_model.specs.Answers.{data_in, header_refusal, is_pending, refusal_of, request_refusal};
 ghost use Rattle.pst_model.specs.Requests.{items_in};
 
+use control_defs::STORAGE;
 use pst_model::{RequestFault, Verdict};
-use pus_header::{TcFault, read_tc};
+use pus_header::{APID, TcFault, read_tc};
 use pus_request::{Items, read_request};
 use space_packet::PacketView;
-
-/// The APID of this program.
-const APID: u16 = 10;
-
-/// The service of storage and retrieval.
-const STORAGE: u8 = 15;
 
 // The codes of the judgements, in their order.
 const WRONG_APID: u8 = 1;

@@ -83,13 +83,6 @@ Writes-set xs a y h = record {
       ∙ ap (λ l. take a xs ++ l) (drop-set xs a y h);
 }
 
--- a write of all of `s[a..a + n]`, or of the front of it
-pub Writes-part : (a k : ℕ) (xs zs part : List ℕ) → a + length zs ≤ length xs → length zs ≤ k → part ≡ zs ++ drop (length zs) (mid_of a k xs) → Writes xs (put_mid a k xs part) a zs
-Writes-part a k xs zs part room fits e = record {
-  room = room;
-  after = put_mid-front a k (length zs) xs zs part fits e;
-}
-
 -- what was written stands at its place
 pub drop-Writes : {old new ys : List ℕ} {at : ℕ} → Writes old new at ys → drop at new ≡ ys ++ drop (at + length ys) old
 drop-Writes {old} {new} {ys} {at} w =

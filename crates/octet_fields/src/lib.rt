@@ -32,6 +32,14 @@ pub fn u48_at(bytes: &[u8], at: usize) -> u64
     BigEndian::read_u48(&bytes[at..])
 }
 
+/// The number in the eight octets at `at`.
+pub fn u64_at(bytes: &[u8], at: usize) -> u64
+    requires { at + 8 ≤ length bytes.now }
+    ensures { result ≡ field 8 at bytes.now }
+{
+    BigEndian::read_u64(&bytes[at..])
+}
+
 /// Writes one octet at `at`, and leaves the rest.
 pub fn put_u8(out: &mut [u8], at: usize, octet: u8)
     requires { at < length out.old }
@@ -65,6 +73,14 @@ pub fn put_u48(out: &mut [u8], at: usize, number: u64)
     BigEndian::write_u48(&mut out[at..], number);
 }
 
+/// Writes a number in eight octets at `at`, and leaves the rest.
+pub fn put_u64(out: &mut [u8], at: usize, number: u64)
+    requires { at + 8 ≤ length out.old }
+    ensures { Writes out.old out.new at (big_bytes 8 number) }
+{
+    BigEndian::write_u64(&mut out[at..], number);
+}
+
 /// Writes octets at `at`, and leaves the rest.
 pub fn put_octets(out: &mut [u8], at: usize, octets: &[u8])
     requires { at + length octets.now ≤ length out.old }
@@ -85,16 +101,20 @@ mod tests {
 
     #[test]
     fn the_highest_octet_comes_first(rt: HostRuntime) {
-        let mut octets = [9u8; 16];
+        let mut octets = [9u8; 24];
         put_u8(&mut octets, 0, 7);
         put_u16(&mut octets, 1, 300);
         put_u32(&mut octets, 3, 0x0102_0304);
         put_u48(&mut octets, 7, 0x0506_0708_090a);
         put_octets(&mut octets, 14, &[11]);
-        let written = [7u8, 1, 44, 1, 2, 3, 4, 5, 6, 7, 8, 9, 10, 9, 11, 9];
+        put_u64(&mut octets, 15, 0x1112_1314_1516_1718);
+        let written = [
+            7u8, 1, 44, 1, 2, 3, 4, 5, 6, 7, 8, 9, 10, 9, 11, 17, 18, 19, 20, 21, 22, 23, 24, 9,
+        ];
         assert!(rt; octets == written);
         assert_eq!(rt; u16_at(&written, 1), 300);
         assert_eq!(rt; u32_at(&written, 3), 0x0102_0304);
         assert_eq!(rt; u48_at(&written, 7), 0x0506_0708_090a);
+        assert_eq!(rt; u64_at(&written, 15), 0x1112_1314_1516_1718);
     }
 }

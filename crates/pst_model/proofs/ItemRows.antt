@@ -115,8 +115,18 @@ form_4 = refl
 apid_2048 : request_fault_of 15 3 (first_item ++ 1 ∷ 0x08 ∷ 0x00 ∷ 0 ∷ 0 ∷ []) ≡ Some (Malformed 11)
 apid_2048 = refl
 
-apid_of_every : request_fault_of 15 3 (first_item ++ 0 ∷ 0 ∷ 1 ∷ 0 ∷ 0 ∷ []) ≡ Some (Malformed 11)
+-- the first octet other than 0 of an APID that is not used
+low_apid_of_every : request_fault_of 14 1 (1 ∷ 0 ∷ 0x00 ∷ 0x07 ∷ 0 ∷ 0 ∷ []) ≡ Some (Malformed 3)
+low_apid_of_every = refl
+
+high_apid_of_every : request_fault_of 14 1 (1 ∷ 0 ∷ 0x01 ∷ 0x07 ∷ 0 ∷ 0 ∷ []) ≡ Some (Malformed 2)
+high_apid_of_every = refl
+
+apid_of_every : request_fault_of 15 3 (first_item ++ 0 ∷ 0 ∷ 1 ∷ 0 ∷ 0 ∷ []) ≡ Some (Malformed 12)
 apid_of_every = refl
+
+highest_apid_of_every : request_fault_of 14 2 (1 ∷ 0 ∷ 0xff ∷ 0xff ∷ 1 ∷ 1 ∷ []) ≡ Some (Malformed 2)
+highest_apid_of_every = refl
 
 service_of_every : request_fault_of 15 3 (first_item ++ 0 ∷ 0 ∷ 0 ∷ 1 ∷ 0 ∷ []) ≡ Some (Malformed 13)
 service_of_every = refl

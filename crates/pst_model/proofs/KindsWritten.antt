@@ -5,6 +5,7 @@ use Rattle.std.specs.Prelude.{nat_lt, IsSomeAnd}
 use Rattle.byteorder.specs.Endian.{big_number}
 use Rattle.byteorder.specs.Numbers.{big_number-reads_back}
 use Rattle.octet_fields.specs.Fields.{big_bytes}
+use Rattle.octet_fields.proofs.Parts.{same_three, same_two}
 use Rattle.control_defs.specs.declared.instructions.Instruction.{Instruction}
 use Rattle.control_defs.specs.declared.instructions.Instruction.TheVariants.{ForwardAdd, ForwardDelete, ForwardReport, Enable, Disable, AddTypes, DeleteTypes, ReportTypes, StartRange, DeleteUpTo, Summary, OpenFrom, Resume, Suspend, Abort, Status, Create, Remove, Configuration, Copy, Resize, ToCircular, ToBounded, Channel}
 use Rattle.control_defs.specs.declared.instructions.StoreKind.TheVariants.{Circular, Bounded}
@@ -77,13 +78,6 @@ four n fits = big_number-reads_back 4 n [] fits
 six : (n : ℕ) → n < 2 ^ 48 → big_number 6 (big_bytes 6 n) ≡ n
 six n fits = big_number-reads_back 6 n [] fits
 
--- two fields and three that are each the same
-both : {A B C : Type 0} (f : A → B → C) {a b : A} {x y : B} → a ≡ b → x ≡ y → f a x ≡ f b y
-both f first second = rw (first, second) refl
-
-each_of_three : {A B C D : Type 0} (f : A → B → C → D) {a b : A} {x y : B} {m n : C} → a ≡ b → x ≡ y → m ≡ n → f a x m ≡ f b y n
-each_of_three f first second third = rw (first, second, third) refl
-
 pub IsOf-asked : (item : Instruction) → IsInstruction item → HasOctets item → IsSomeAnd (kind_in (kind_asked item).0 (kind_asked item).1) (λ kind. IsOf kind item)
 IsOf-asked (ForwardAdd pattern) lawful fits = record {
   long = length-pattern_octets pattern;
@@ -103,7 +97,7 @@ IsOf-asked (Disable store) lawful fits = plain_is refl refl refl (λ rest. ap Di
 IsOf-asked (AddTypes store pattern) lawful fits = record {
   long = ap (λ (n : ℕ). suc (suc n)) (length-pattern_octets pattern);
   lone = refl;
-  back = λ rest. both AddTypes (two store fits.0) (pattern_in-octets pattern rest lawful);
+  back = λ rest. same_two AddTypes (two store fits.0) (pattern_in-octets pattern rest lawful);
   right = λ rest.
       plain_octets 2 (OnePattern ∷ []) (big_bytes 2 store ++ pattern_octets pattern ++ rest)
       (one_pattern (pattern_octets pattern ++ rest) (IsRightPattern-octets pattern rest lawful));
@@ -111,16 +105,16 @@ IsOf-asked (AddTypes store pattern) lawful fits = record {
 IsOf-asked (DeleteTypes store pattern) lawful fits = record {
   long = ap (λ (n : ℕ). suc (suc n)) (length-pattern_octets pattern);
   lone = refl;
-  back = λ rest. both DeleteTypes (two store fits.0) (pattern_in-octets pattern rest lawful);
+  back = λ rest. same_two DeleteTypes (two store fits.0) (pattern_in-octets pattern rest lawful);
   right = λ rest.
       plain_octets 2 (OnePattern ∷ []) (big_bytes 2 store ++ pattern_octets pattern ++ rest)
       (one_pattern (pattern_octets pattern ++ rest) (IsRightPattern-octets pattern rest lawful));
 }
 IsOf-asked (ReportTypes store) lawful fits = plain_is refl refl refl (λ rest. ap ReportTypes (two store fits))
-IsOf-asked (StartRange store t1 t2) lawful fits = plain_is refl refl refl (λ rest. each_of_three StartRange (two store fits) (six t1 lawful.0) (six t2 lawful.1))
-IsOf-asked (DeleteUpTo store t) lawful fits = plain_is refl refl refl (λ rest. both DeleteUpTo (two store fits) (six t lawful))
+IsOf-asked (StartRange store t1 t2) lawful fits = plain_is refl refl refl (λ rest. same_three StartRange (two store fits) (six t1 lawful.0) (six t2 lawful.1))
+IsOf-asked (DeleteUpTo store t) lawful fits = plain_is refl refl refl (λ rest. same_two DeleteUpTo (two store fits) (six t lawful))
 IsOf-asked (Summary store) lawful fits = plain_is refl refl refl (λ rest. ap Summary (two store fits))
-IsOf-asked (OpenFrom store t) lawful fits = plain_is refl refl refl (λ rest. both OpenFrom (two store fits) (six t lawful))
+IsOf-asked (OpenFrom store t) lawful fits = plain_is refl refl refl (λ rest. same_two OpenFrom (two store fits) (six t lawful))
 IsOf-asked (Resume store) lawful fits = plain_is refl refl refl (λ rest. ap Resume (two store fits))
 IsOf-asked (Suspend store) lawful fits = plain_is refl refl refl (λ rest. ap Suspend (two store fits))
 IsOf-asked (Abort store) lawful fits = plain_is refl refl refl (λ rest. ap Abort (two store fits))
@@ -128,21 +122,21 @@ IsOf-asked Status lawful fits = plain_is refl refl refl (λ rest. refl)
 IsOf-asked (Create store Circular size channel) lawful fits = record {
   long = refl;
   lone = refl;
-  back = λ rest. both (λ (s n : ℕ). Create s Circular n channel) (two store fits.0) (four size fits.1);
+  back = λ rest. same_two (λ (s n : ℕ). Create s Circular n channel) (two store fits.0) (four size fits.1);
   right = λ rest. created_right store 0 size channel rest refl;
 }
 IsOf-asked (Create store Bounded size channel) lawful fits = record {
   long = refl;
   lone = refl;
-  back = λ rest. both (λ (s n : ℕ). Create s Bounded n channel) (two store fits.0) (four size fits.1);
+  back = λ rest. same_two (λ (s n : ℕ). Create s Bounded n channel) (two store fits.0) (four size fits.1);
   right = λ rest. created_right store 1 size channel rest refl;
 }
 IsOf-asked (Remove store) lawful fits = plain_is refl refl refl (λ rest. ap Remove (two store fits))
 IsOf-asked Configuration lawful fits = plain_is refl refl refl (λ rest. refl)
 IsOf-asked (Copy from to t1 t2) lawful fits =
     plain_is refl refl refl
-    (λ rest. each_of_three (Copy (big_number 2 (big_bytes 2 from))) (two to fits.1) (six t1 lawful.0) (six t2 lawful.1) ∙ ap (λ (s : ℕ). Copy s to t1 t2) (two from fits.0))
-IsOf-asked (Resize store size) lawful fits = plain_is refl refl refl (λ rest. both Resize (two store fits.0) (four size fits.1))
+    (λ rest. same_three (Copy (big_number 2 (big_bytes 2 from))) (two to fits.1) (six t1 lawful.0) (six t2 lawful.1) ∙ ap (λ (s : ℕ). Copy s to t1 t2) (two from fits.0))
+IsOf-asked (Resize store size) lawful fits = plain_is refl refl refl (λ rest. same_two Resize (two store fits.0) (four size fits.1))
 IsOf-asked (ToCircular store) lawful fits = plain_is refl refl refl (λ rest. ap ToCircular (two store fits))
 IsOf-asked (ToBounded store) lawful fits = plain_is refl refl refl (λ rest. ap ToBounded (two store fits))
 IsOf-asked (Channel store channel) lawful fits = plain_is refl refl refl (λ rest. ap (λ (s : ℕ). Channel s channel) (two store fits.0))

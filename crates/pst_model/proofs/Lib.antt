@@ -17,6 +17,7 @@ pub mod RequestItems
 mod RequestRows
 pub mod Runs
 pub mod SpelledRequests
+pub mod StoredPages
 mod TableRows
 mod TextRows
 pub mod Texts

@@ -1,5 +1,5 @@
--- The pages of packets, and how many leave the front of a store.
-use Rattle.std.proofs.Common.{◌≡◌, ◌≤◌, ℕ, ◌+◌, false, List, [], ◌∷◌, ◌++◌, length, ap, arith}
+-- How many packets leave the front of a store, and what a circular store refuses.
+use Rattle.std.proofs.Common.{◌≡◌, ◌≤◌, ℕ, false, length, ap, arith}
 use Rattle.std.proofs.lemmas.Bool.{le-leb, le-ltb, or_from}
 use Rattle.std.proofs.lemmas.List.{drop_all}
 use Rattle.std.specs.Prelude.{◌&&◌, nat_lt}
@@ -7,12 +7,8 @@ use Rattle.control_defs.specs.declared.instructions.StoreKind.{StoreKind}
 use Rattle.control_defs.specs.declared.instructions.StoreKind.TheVariants.{Circular}
 use Rattle.pst_model.specs.Least.{IsLeast}
 use Rattle.pst_model.specs.Rules.{free_of, has_room, is_bounded, is_refused, to_drop}
-use Rattle.pst_model.specs.Table.{Store, Stored, content_in}
+use Rattle.pst_model.specs.Table.{Store, content_in}
 use Rattle.pst_model.proofs.Leasts.{least-least}
-
-pub content_in-append : (xs ys : List Stored) → content_in (xs ++ ys) ≡ content_in xs + content_in ys
-content_in-append [] ys = omega arith
-content_in-append (x ∷ xs) ys = omega (arith, content_in-append xs ys)
 
 -- the fewest packets leave that have to
 pub to_drop-least : (store : Store) (need : ℕ) → need ≤ store.size → IsLeast (has_room store need) (to_drop store need)

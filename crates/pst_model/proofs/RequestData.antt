@@ -4,6 +4,7 @@ use Rattle.std.proofs.Math.Nat.{mul-le-mul_right}
 use Rattle.std.proofs.lemmas.List.{drop-drop}
 use Rattle.std.proofs.lemmas.List.Elements.{All-drop, All-head}
 use Rattle.std.specs.Prelude.{All, IsSomeAnd, if◌then◌else◌, slice_index}
+use Rattle.octet_fields.proofs.Parts.{same_pair}
 use Rattle.control_defs.specs.declared.instructions.Instruction.{Instruction}
 use Rattle.control_defs.specs.declared.instructions.Instruction.TheVariants.{Status}
 use Rattle.pst_model.specs.Items.{is_alone}
@@ -44,9 +45,6 @@ are_alone-first : (lone : Bool) (items : List Instruction) → 1 ≤ length item
 are_alone-first lone [] some all = absurd (omega arith)
 are_alone-first lone (item ∷ items) some all = All-head (λ (item : Instruction). is_alone item ≡ lone) item items all
 
-pair_of : {a b c d : ℕ} → a ≡ b → c ≡ d → ◌≡◌ {A = ℕ × ℕ} (a, c) (b, d)
-pair_of first second = rw (first, second) refl
-
 -- what is known of the items of one kind
 module _ (service subtype : ℕ) (kind : RequestKind) (found : kind_in service subtype ≡ Some kind) where
   -- data that is not malformed spells the instructions that are read
@@ -68,7 +66,7 @@ module _ (service subtype : ℕ) (kind : RequestKind) (found : kind_in service s
       let few : count ≤ (if kind.is_list then 32 else 1) = few_of kind.is_list (slice_index body 0) whole.few in
       record {
         asked = record {
-          kind = λ k d lt. (asked k d lt).asked ∙ pair_of known.1 known.2;
+          kind = λ k d lt. (asked k d lt).asked ∙ same_pair known.1 known.2;
           lawful = λ k d lt. (asked k d lt).lawful;
           fit = λ k d lt. (asked k d lt).fits;
           some = some;

@@ -5,7 +5,7 @@ use Rattle.control_defs.specs.declared.instructions.Instruction.{Instruction}
 use Rattle.control_defs.specs.declared.instructions.Instruction.TheVariants.{ForwardAdd, ForwardDelete, ForwardReport, Enable, Disable, AddTypes, DeleteTypes, ReportTypes, StartRange, DeleteUpTo, Summary, OpenFrom, Resume, Suspend, Abort, Status, Create, Remove, Configuration, Copy, Resize, ToCircular, ToBounded, Channel}
 use Rattle.control_defs.specs.Instructions.{kind_octet}
 use Rattle.control_defs.specs.PatternOctets.{pattern_octets}
-use Rattle.pst_model.specs.PatternOctets.{HasPatternOctets}
+use Rattle.control_defs.specs.Patterns.{HasPatternOctets}
 
 -- the service type and the message subtype of a request for an instruction
 abbrev pub kind_asked : Instruction → ℕ × ℕ

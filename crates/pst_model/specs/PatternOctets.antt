@@ -1,15 +1,8 @@
 -- Patterns that are read from octets, and which octets are wrong.
-use Rattle.std.specs.Prelude.{◌<◌, ◌==◌, ◌&&◌, ◌||◌, ℕ, Bool, not, nat_le, nat_lt, if◌then◌else◌, List, slice_index}
+use Rattle.std.specs.Prelude.{◌==◌, ◌&&◌, ◌||◌, ℕ, Bool, not, nat_le, nat_lt, if◌then◌else◌, List, slice_index}
 use Rattle.octet_fields.specs.Fields.{field}
 use Rattle.control_defs.specs.declared.patterns.Pattern.{Pattern}
 use Rattle.control_defs.specs.declared.patterns.Pattern.TheVariants.{Every, App, Service, Kind}
-
--- its service type and message subtype have one octet each
-abbrev pub HasPatternOctets : Pattern → Type 0
-HasPatternOctets Every = Unit {0}
-HasPatternOctets (App apid) = Unit {0}
-HasPatternOctets (Service apid service) = service < 256
-HasPatternOctets (Kind apid service subtype) = (service < 256) × (subtype < 256)
 
 -- the fields at the front of octets
 abbrev pub form_in : List ℕ → ℕ
@@ -32,15 +25,15 @@ pattern_in octets =
     else if form_in octets == 2 then Service (apid_in octets) (service_in octets)
     else Kind (apid_in octets) (service_in octets) (subtype_in octets)
 
--- the highest APID in a pattern of a form: the first form does not use it
-abbrev pub highest_apid : (form : ℕ) → ℕ
-highest_apid form = if form == 0 then 0 else 2047
+-- how many octets a pattern of a form uses: those of the form, the APID, the service type and the message
+-- subtype, as far as it has them. The others stand behind them.
+abbrev pub used_by : (form : ℕ) → ℕ
+used_by form = if form == 0 then 1 else if form == 1 then 3 else if form == 2 then 4 else 5
 
--- Whether the octet at this place of a pattern is wrong: a form above 3, the first of an APID that is too
--- high, or another than 0 where the form does not use the service type or the message subtype.
+-- Whether the octet at this place of a pattern is wrong: a form above 3, the first of an APID above 2047, or
+-- one other than 0 that the form does not use.
 abbrev pub is_wrong_in_pattern : List ℕ → (place : ℕ) → Bool
 is_wrong_in_pattern octets place =
     (place == 0 && nat_lt 3 (form_in octets))
-    || (place == 1 && nat_lt (highest_apid (form_in octets)) (apid_in octets))
-    || (place == 3 && (nat_le (form_in octets) 1 && not (service_in octets == 0)))
-    || (place == 4 && (nat_le (form_in octets) 2 && not (subtype_in octets == 0)))
+    || (place == 1 && nat_lt 2047 (apid_in octets))
+    || (nat_le (used_by (form_in octets)) place && not (slice_index octets place == 0))

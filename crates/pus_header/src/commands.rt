@@ -10,11 +10,9 @@ ghost use Rattle.pus_header.specs.Commands.{
   subtype_of,
 };
 
+use crate::numbers::TC_HEADERS;
 use octet_fields::u16_at;
 use space_packet::PacketView;
-
-/// The octets of a telecommand's two headers.
-pub(crate) const HEADERS: usize = 11;
 
 /// A telecommand packet with a whole secondary header of PUS version 2 (ECSS-E-ST-70-41C, 7.4.4).
 #[derive(Clone, Copy)]
@@ -82,6 +80,6 @@ impl<'a> TcView<'a> {
     pub fn body(&self) -> &'a [u8]
         ensures { result.now ≡ drop 11 (command_octets self.now) }
     {
-        &self.packet.bytes()[HEADERS..]
+        &self.packet.bytes()[TC_HEADERS..]
     }
 }

@@ -6,6 +6,7 @@ mod commands;
 mod faults;
 mod keys;
 mod laws;
+mod numbers;
 mod reading;
 mod reports;
 
@@ -13,6 +14,7 @@ pub use commands::{TcView, identifier_of};
 pub use faults::TcFault;
 pub use keys::key_of;
 pub use laws::{command_or_fault, kind_or_none, report_reads_back};
+pub use numbers::{APID, PUS_VERSION, TC_HEADERS, TM_HEADERS};
 pub use reading::read_tc;
 pub use reports::write_tm_head;
 

@@ -4,9 +4,9 @@ ghost use Rattle.space_packet.specs.View.{octets_of};
 ghost use Rattle.pus_header.specs.Commands.{IsCommandPacket, tc_fault_of};
 ghost use Rattle.pus_header.specs.View.{command_octets};
 
-use crate::commands::{HEADERS, TcView};
+use crate::commands::TcView;
 use crate::faults::TcFault;
-use crate::keys::PUS_VERSION;
+use crate::numbers::{PUS_VERSION, TC_HEADERS};
 use space_packet::PacketView;
 
 /// The telecommand that a packet is, or the first fault that it has as one.
@@ -18,7 +18,7 @@ pub fn read_tc<'a>(packet: PacketView<'a>) -> Result<TcView<'a>, TcFault>
     if !packet.is_command() {
         return Err(TcFault::NotCommand);
     }
-    if !packet.has_secondary() || packet.bytes().len() < HEADERS {
+    if !packet.has_secondary() || packet.bytes().len() < TC_HEADERS {
         return Err(TcFault::NoHeader);
     }
     let version = packet.bytes()[6] / 16;

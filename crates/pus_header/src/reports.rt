@@ -2,15 +2,9 @@
 ghost use Rattle.std.specs.Prelude.{◌≡◌, ◌++◌, ◌<◌, ◌≤◌, ◌^◌, length, drop};
 ghost use Rattle.pus_header.specs.Reports.{report_head};
 
-use crate::keys::PUS_VERSION;
+use crate::numbers::{APID, PUS_VERSION};
 use octet_fields::{put_u8, put_u16, put_u48};
-use space_packet::{Primary, write_primary};
-
-/// The APID of the reports of this program.
-const REPORTS: u16 = 10;
-
-/// The sequence flags of an unsegmented packet (CCSDS 133.0-B, 4.1.3.4.2).
-const UNSEGMENTED: u8 = 3;
+use space_packet::{Primary, UNSEGMENTED, write_primary};
 
 /// Writes the two headers of a report with `body` octets of application data, at most 4,077, into the
 /// first 19 octets of `out`, and leaves the rest. `out` has at least 19 octets. The report is a
@@ -29,7 +23,7 @@ pub fn write_tm_head(count: u16, service: u8, subtype: u8, moment: u64, body: u3
     let head = Primary {
         command: false,
         secondary: true,
-        apid: REPORTS,
+        apid: APID,
         flags: UNSEGMENTED,
         count,
         length: 13 + body as u16 - 1,

@@ -1,9 +1,10 @@
 -- The packet of a report, as it was written: its head, and its content behind that.
-use Rattle.std.proofs.Common.{◌≡◌, ℕ, ◌+◌, ◌<◌, ◌≤◌, List, ◌++◌, length, drop, ap, ◌∙◌, arith, length-append}
+use Rattle.std.proofs.Common.{◌≡◌, ℕ, ◌+◌, ◌<◌, ◌≤◌, List, ◌++◌, length, drop, ap, ◌∙◌}
 use Rattle.octet_fields.proofs.Splices.{Writes-at_front}
 use Rattle.octet_fields.specs.Fields.{Writes}
 use Rattle.space_packet.specs.Packet.{IsPacket}
 use Rattle.pus_header.specs.Reports.{report_head}
+use Rattle.pus_header.proofs.Heads.{IsPacket-headed, length-headed}
 use Rattle.pst_model.specs.Reports.{Report, report_packet}
 
 pub written-packet : (old new : List ℕ) (count moment subtype size : ℕ) (report : Report)
@@ -19,16 +20,10 @@ written-packet old new count moment subtype size report kind total written =
 -- how long it is
 pub length-report : (count moment : ℕ) (report : Report)
     → length (report_packet count moment report) ≡ 19 + length report.content
-length-report count moment report =
-    omega (arith, length-append (report_head count report.service report.subtype moment (length report.content)) report.content)
+length-report count moment report = length-headed count report.service report.subtype moment report.content
 
 -- it is a packet, where its content is short enough
 pub IsPacket-report : (count moment : ℕ) (report : Report) → count < 16384 → length report.content ≤ 4077
     → IsPacket (report_packet count moment report)
 IsPacket-report count moment report counted short =
-    let long = length-report count moment report in record {
-      at_least = omega (arith, long);
-      at_most = omega (arith, long);
-      version = omega arith;
-      whole = omega (arith, long);
-    }
+    IsPacket-headed count report.service report.subtype moment report.content counted short

@@ -4,9 +4,11 @@ ghost use Rattle.octet_fields.specs.Fields.{Writes};
 ghost use Rattle.space_packet.specs.Packet.{IsPacket};
 ghost use Rattle.pst_model.specs.Reports.{config_octets, configuration_report, listed_octets, report_packet};
 
-use crate::head::{HEADERS, Head, STORAGE, put_head};
+use crate::head::{Head, put_head};
+use control_defs::STORAGE;
 use octet_fields::{put_u8, put_u16, put_u32};
 use pst_model::ConfigRow;
+use pus_header::TM_HEADERS;
 
 /// The message subtype of the report.
 const CONFIGURATION_REPORT: u8 = 23;
@@ -58,6 +60,6 @@ pub fn write_configuration(head: Head, rows: &[ConfigRow], out: &mut [u8]) -> u3
 {
     let content = 1 + ROW * rows.len() as u32;
     put_head(head, STORAGE, CONFIGURATION_REPORT, content, out);
-    put_configs(rows, out, HEADERS);
-    HEADERS as u32 + content
+    put_configs(rows, out, TM_HEADERS);
+    TM_HEADERS as u32 + content
 }

@@ -3,8 +3,9 @@ ghost use Rattle.std.specs.Prelude.{◌≡◌, ◌<◌, ◌≤◌, ◌^◌, ◌+
 ghost use Rattle.space_packet.specs.Packet.{IsPacket};
 ghost use Rattle.pst_model.specs.Reports.{event_report, report_packet};
 
-use crate::head::{HEADERS, Head, put_head};
+use crate::head::{Head, put_head};
 use octet_fields::{put_u16, put_u32};
+use pus_header::TM_HEADERS;
 
 /// The service of event reporting.
 const EVENTS: u8 = 5;
@@ -34,9 +35,9 @@ pub fn write_event(head: Head, store: u16, need: u32, free: u32, out: &mut [u8])
     ensures packet { IsPacket (report_packet head.count head.moment (event_report store need free)) }
 {
     put_head(head, EVENTS, LOW_SEVERITY, CONTENT, out);
-    put_u16(out, HEADERS, PUT_REFUSED);
-    put_u16(out, HEADERS + 2, store);
-    put_u32(out, HEADERS + 4, need);
-    put_u32(out, HEADERS + 8, free);
-    HEADERS as u32 + CONTENT
+    put_u16(out, TM_HEADERS, PUT_REFUSED);
+    put_u16(out, TM_HEADERS + 2, store);
+    put_u32(out, TM_HEADERS + 4, need);
+    put_u32(out, TM_HEADERS + 8, free);
+    TM_HEADERS as u32 + CONTENT
 }

@@ -5,12 +5,6 @@ ghost use Rattle.pus_header.specs.Reports.{report_head};
 
 use pus_header::write_tm_head;
 
-/// The octets of the two headers of a report.
-pub(crate) const HEADERS: usize = 19;
-
-/// The service of on-board storage and retrieval.
-pub(crate) const STORAGE: u8 = 15;
-
 /// What a report is told beside its content.
 #[derive(Clone, Copy, Debug, PartialEq, Eq)]
 pub struct Head {

@@ -5,12 +5,10 @@ ghost use Rattle.space_packet.specs.Packet.{IsPacket};
 ghost use Rattle.control_defs.specs.PatternOctets.{pattern_octets};
 ghost use Rattle.pst_model.specs.Reports.{forward_report, listed_octets, report_packet, types_report};
 
-use crate::head::{HEADERS, Head, STORAGE, put_head};
-use control_defs::{Pattern, put_pattern};
+use crate::head::{Head, put_head};
+use control_defs::{FORWARDING, Pattern, STORAGE, put_pattern};
 use octet_fields::{put_u8, put_u16};
-
-/// The service of real-time forwarding control.
-const FORWARDING: u8 = 14;
+use pus_header::TM_HEADERS;
 
 /// The message subtype of the report of what is forwarded.
 const FORWARD_REPORT: u8 = 4;
@@ -55,8 +53,8 @@ pub fn write_forward(head: Head, patterns: &[Pattern], out: &mut [u8]) -> u32
 {
     let content = 1 + PATTERN * patterns.len() as u32;
     put_head(head, FORWARDING, FORWARD_REPORT, content, out);
-    put_patterns(patterns, out, HEADERS);
-    HEADERS as u32 + content
+    put_patterns(patterns, out, TM_HEADERS);
+    TM_HEADERS as u32 + content
 }
 
 /// Writes the report of the patterns of packets that a store takes, at most 64, at the front of `out`,
@@ -76,7 +74,7 @@ pub fn write_types(head: Head, store: u16, patterns: &[Pattern], out: &mut [u8])
 {
     let content = STORE + 1 + PATTERN * patterns.len() as u32;
     put_head(head, STORAGE, TYPES_REPORT, content, out);
-    put_u16(out, HEADERS, store);
-    put_patterns(patterns, out, HEADERS + STORE as usize);
-    HEADERS as u32 + content
+    put_u16(out, TM_HEADERS, store);
+    put_patterns(patterns, out, TM_HEADERS + STORE as usize);
+    TM_HEADERS as u32 + content
 }

@@ -4,9 +4,11 @@ ghost use Rattle.octet_fields.specs.Fields.{Writes};
 ghost use Rattle.space_packet.specs.Packet.{IsPacket};
 ghost use Rattle.pst_model.specs.Reports.{listed_octets, report_packet, status_octets, status_report};
 
-use crate::head::{HEADERS, Head, STORAGE, put_head};
+use crate::head::{Head, put_head};
+use control_defs::STORAGE;
 use octet_fields::{put_u8, put_u16};
 use pst_model::StatusRow;
+use pus_header::TM_HEADERS;
 
 /// The message subtype of the report.
 const STATUS_REPORT: u8 = 19;
@@ -58,6 +60,6 @@ pub fn write_status(head: Head, rows: &[StatusRow], out: &mut [u8]) -> u32
 {
     let content = 1 + ROW * rows.len() as u32;
     put_head(head, STORAGE, STATUS_REPORT, content, out);
-    put_statuses(rows, out, HEADERS);
-    HEADERS as u32 + content
+    put_statuses(rows, out, TM_HEADERS);
+    TM_HEADERS as u32 + content
 }

@@ -4,9 +4,11 @@ ghost use Rattle.octet_fields.specs.Fields.{Writes};
 ghost use Rattle.space_packet.specs.Packet.{IsPacket};
 ghost use Rattle.pst_model.specs.Reports.{HasTimes, listed_octets, report_packet, summary_octets, summary_report};
 
-use crate::head::{HEADERS, Head, STORAGE, put_head};
+use crate::head::{Head, put_head};
+use control_defs::STORAGE;
 use octet_fields::{put_u8, put_u16, put_u32, put_u48};
 use pst_model::SummaryRow;
+use pus_header::TM_HEADERS;
 
 /// The message subtype of the report.
 const SUMMARY_REPORT: u8 = 13;
@@ -64,6 +66,6 @@ pub fn write_summary(head: Head, rows: &[SummaryRow], out: &mut [u8]) -> u32
 {
     let content = 1 + ROW * rows.len() as u32;
     put_head(head, STORAGE, SUMMARY_REPORT, content, out);
-    put_summaries(rows, out, HEADERS);
-    HEADERS as u32 + content
+    put_summaries(rows, out, TM_HEADERS);
+    TM_HEADERS as u32 + content
 }

@@ -4,9 +4,10 @@ ghost use Rattle.octet_fields.specs.Fields.{Writes, big_bytes};
 ghost use Rattle.space_packet.specs.Packet.{IsPacket};
 ghost use Rattle.pst_model.specs.Reports.{failure_octets, report_packet, verdict_report, verdict_subtype};
 
-use crate::head::{HEADERS, Head, put_head};
+use crate::head::{Head, put_head};
 use octet_fields::{put_octets, put_u8, put_u16};
 use pst_model::Verdict;
+use pus_header::TM_HEADERS;
 
 /// The service of request verification.
 const VERIFICATION: u8 = 1;
@@ -77,7 +78,7 @@ pub fn write_verdict(head: Head, verdict: Verdict, request: [u8; 4], out: &mut [
 {
     let content = IDENTIFIER + failure_length(verdict);
     put_head(head, VERIFICATION, subtype_of(verdict), content, out);
-    put_octets(out, HEADERS, &request);
-    put_failure(verdict, out, HEADERS + IDENTIFIER as usize);
-    HEADERS as u32 + content
+    put_octets(out, TM_HEADERS, &request);
+    put_failure(verdict, out, TM_HEADERS + IDENTIFIER as usize);
+    TM_HEADERS as u32 + content
 }

@@ -1,5 +1,6 @@
 -- The kinds that the code knows stand in the table.
 use Rattle.std.proofs.Common.{◌≡◌, ℕ, List, Some, None, refl, sym, ◌∙◌, ap}
+use Rattle.octet_fields.proofs.Parts.{same_pair}
 use Rattle.control_defs.specs.declared.instructions.Instruction.{Instruction}
 use Rattle.pst_model.specs.Items.{kind_asked}
 use Rattle.pst_model.specs.Layouts.{kind_in}
@@ -38,15 +39,12 @@ found-row ToCircular = refl
 found-row ToBounded = refl
 found-row Channel = refl
 
-pub pair_of : {a b c d : ℕ} → a ≡ b → c ≡ d → ◌≡◌ {A = ℕ × ℕ} (a, c) (b, d)
-pair_of first second = rw (first, second) refl
-
 -- a kind that is found by a service type and a message subtype has these
 pub asked-found : (kind : Kind) (service subtype : ℕ) → kind_in service subtype ≡ Some (row_of kind) → asked_by kind ≡ (service, subtype)
 asked-found kind service subtype found =
     let own = reader_found (asked_by kind).0 (asked_by kind).1 (row_of kind) (found-row kind) in
     let other = reader_found service subtype (row_of kind) found in
-    pair_of (sym own.1 ∙ other.1) (sym own.2 ∙ other.2)
+    same_pair (sym own.1 ∙ other.1) (sym own.2 ∙ other.2)
 
 -- and so has an instruction for which requests of a kind ask
 pub row-asked : (item : Instruction) (kind : Kind) → kind_asked item ≡ asked_by kind → kind_in (kind_asked item).0 (kind_asked item).1 ≡ Some (row_of kind)

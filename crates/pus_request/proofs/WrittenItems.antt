@@ -1,7 +1,7 @@
 -- What the writes of a request leave.
 use Rattle.std.proofs.Common.{◌≡◌, ℕ, ◌+◌, ◌<◌, ◌≤◌, Bool, true, false, List, [], ◌∷◌, ◌++◌, length, take, drop, get_or, Some, refl, sym, ap, ◌∙◌, subst, arith}
 use Rattle.octet_fields.specs.Fields.{Writes}
-use Rattle.octet_fields.proofs.Splices.{Writes-at_front, Writes-then}
+use Rattle.octet_fields.proofs.Splices.{Writes-at_front, Writes-from_front, Writes-then}
 use Rattle.space_packet.specs.Header.{header_of}
 use Rattle.control_defs.specs.declared.instructions.Instruction.{Instruction}
 use Rattle.control_defs.specs.declared.instructions.Instruction.TheVariants.{ForwardAdd}
@@ -28,10 +28,9 @@ pub written-packet : (old headed counted new : List ℕ) (count acks service sub
     → new ≡ request_packet count acks service subtype source items ++ drop (length (request_packet count acks service subtype source items)) old
 written-packet old headed counted new count acks service subtype source size items whole room front number behind =
     let head : List ℕ = header_of (request_primary count (length (data_of items))) ++ request_secondary acks service subtype source in
-    let headers : Writes old headed 0 head = record {
-      room = room;
-      after = front ∙ ap (λ (n : ℕ). header_of (request_primary count n) ++ request_secondary acks service subtype source ++ drop 11 old) whole;
-    } in
+    let headers : Writes old headed 0 head =
+    Writes-from_front old headed head room
+    (front ∙ ap (λ (n : ℕ). header_of (request_primary count n) ++ request_secondary acks service subtype source ++ drop 11 old) whole) in
     let rest : Writes headed new 11 (data_of items) = Writes-then number behind refl in
     Writes-at_front (Writes-then headers rest refl)
 

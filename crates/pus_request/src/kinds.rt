@@ -3,13 +3,7 @@ ghost use Rattle.std.specs.Prelude.{◌≡◌, MatchOption, None, Some};
 ghost use Rattle.pst_model.specs.Layouts.{kind_in};
 ghost use Rattle.pus_request.specs.Kinds.{row_of};
 
-use control_defs::Instruction;
-
-/// The service of forwarding control.
-pub(crate) const FORWARDING: u8 = 14;
-
-/// The service of storage and retrieval.
-pub(crate) const STORAGE: u8 = 15;
+use control_defs::{FORWARDING, Instruction, STORAGE};
 
 /// A kind of request, by the instructions for which it asks.
 #[derive(Clone, Copy, Debug, PartialEq, Eq)]

@@ -26,11 +26,12 @@ pub(crate) fn wrong_in_pattern(body: &[u8], at: usize) -> Option<usize>
         (λ place. (at ≤ place) × (first_below (is_wrong_in_pattern (drop at body.now)) 5 ≡ Some (place - at))) }
 {
     let form = body[at];
-    let highest = if form == EVERY { 0 } else { HIGHEST };
     if form > KIND {
         Some(at)
-    } else if u16_at(body, at + 1) > highest {
+    } else if u16_at(body, at + 1) > HIGHEST || form == EVERY && body[at + 1] != 0 {
         Some(at + 1)
+    } else if form == EVERY && body[at + 2] != 0 {
+        Some(at + 2)
     } else if form < SERVICE && body[at + 3] != 0 {
         Some(at + 3)
     } else if form < KIND && body[at + 4] != 0 {

@@ -9,8 +9,9 @@ ghost use Rattle.pus_request.specs.Kinds.{row_of};
 ghost use Rattle.pus_request.specs.View.{asked, listed};
 
 use crate::items::Items;
-use crate::kinds::{FORWARDING, Kind, STORAGE};
+use crate::kinds::Kind;
 use crate::spelled::wrong_in_item;
+use control_defs::{FORWARDING, STORAGE};
 use pst_model::RequestFault;
 use pus_header::TcView;
 

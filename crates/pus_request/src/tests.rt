@@ -224,7 +224,7 @@ fn instructions_with_more_are_written_and_read_back(rt: HostRuntime) {
 #[test]
 fn the_first_fault_is_named(rt: HostRuntime) {
     let malformed = |at| Some(RequestFault::Malformed { at });
-    let rows: [(u8, u8, &[u8], Option<RequestFault>); 28] = [
+    let rows: [(u8, u8, &[u8], Option<RequestFault>); 32] = [
         (15, 15, &[1, 0, 7], None),
         (13, 1, &[1, 0, 7], Some(RequestFault::UnknownService(13))),
         (17, 99, &[], Some(RequestFault::UnknownService(17))),
@@ -242,7 +242,10 @@ fn the_first_fault_is_named(rt: HostRuntime) {
         (14, 1, &[1, 3, 7, 255, 1, 1], None),
         (14, 1, &[1, 4, 0, 0, 0, 0], malformed(1)),
         (14, 1, &[1, 1, 8, 0, 0, 0], malformed(2)),
-        (14, 1, &[1, 0, 0, 1, 0, 0], malformed(2)),
+        (14, 1, &[1, 0, 0, 1, 0, 0], malformed(3)),
+        (14, 1, &[1, 0, 0, 7, 0, 0], malformed(3)),
+        (14, 1, &[1, 0, 1, 7, 0, 0], malformed(2)),
+        (14, 1, &[1, 0, 255, 255, 1, 1], malformed(2)),
         (14, 1, &[1, 0, 0, 0, 1, 0], malformed(4)),
         (14, 1, &[1, 0, 0, 0, 0, 1], malformed(5)),
         (14, 2, &[1, 1, 0, 0, 1, 0], malformed(4)),
@@ -254,6 +257,12 @@ fn the_first_fault_is_named(rt: HostRuntime) {
             3,
             &[2, 0, 7, 0, 0, 0, 0, 0, 0, 7, 2, 0, 0, 0, 1],
             malformed(14),
+        ),
+        (
+            15,
+            3,
+            &[2, 0, 7, 0, 0, 0, 0, 0, 0, 7, 0, 0, 1, 0, 0],
+            malformed(12),
         ),
         (15, 20, &[1, 0, 7, 1, 0, 0, 0, 0, 0], None),
         (15, 20, &[1, 0, 7, 2, 0, 0, 0, 0, 0], malformed(3)),

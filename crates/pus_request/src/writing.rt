@@ -10,19 +10,8 @@ use crate::kinds::Kind;
 use crate::written::put_item;
 use control_defs::Instruction;
 use octet_fields::{put_u8, put_u16};
-use space_packet::{Primary, write_primary};
-
-/// The APID of this program.
-const APID: u16 = 10;
-
-/// The sequence flags of an unsegmented packet (CCSDS 133.0-B, 4.1.3.4.2).
-const UNSEGMENTED: u8 = 3;
-
-/// The PUS version number.
-const PUS_VERSION: u8 = 2;
-
-/// The octets of both headers.
-const HEADERS: usize = 11;
+use pus_header::{APID, PUS_VERSION, TC_HEADERS};
+use space_packet::{Primary, UNSEGMENTED, write_primary};
 
 /// Writes the two headers of a request with `size` octets of data, at most 513, into the first 11 octets of
 /// `out`, and leaves the rest.
@@ -95,7 +84,7 @@ pub fn write_request(
     let kind = Kind::for_item(items[0]);
     let size = kind.place_of(items.len());
     write_headers(count, acks, kind, source, size as u16, out);
-    put_count(kind, items.len() as u8, out, HEADERS);
-    put_items(items, out, HEADERS + kind.front());
-    (HEADERS + size) as u32
+    put_count(kind, items.len() as u8, out, TC_HEADERS);
+    put_items(items, out, TC_HEADERS + kind.front());
+    (TC_HEADERS + size) as u32
 }

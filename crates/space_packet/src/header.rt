@@ -4,6 +4,9 @@ ghost use Rattle.space_packet.specs.Header.{FieldsFit, header_of};
 
 use octet_fields::put_u16;
 
+/// The sequence flags of an unsegmented packet (4.1.3.4.2).
+pub const UNSEGMENTED: u8 = 3;
+
 /// The fields of a primary header of version 0 (CCSDS 133.0-B, 4.1.3).
 #[derive(Clone, Copy, Debug, PartialEq, Eq)]
 pub struct Primary {

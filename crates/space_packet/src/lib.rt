@@ -9,7 +9,7 @@ mod pages;
 mod view;
 
 pub use fault::PacketFault;
-pub use header::{Primary, write_primary};
+pub use header::{Primary, UNSEGMENTED, write_primary};
 pub use laws::{fault_or_packet, header_reads_back};
 pub use pages::charge;
 pub use view::PacketView;
