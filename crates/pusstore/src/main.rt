@@ -3,15 +3,17 @@
 
 ghost use Rattle.std.specs.Prelude.{◌≤◌};
 
+mod outcome;
 mod report;
 mod source;
 
 use board::MemBoard;
+use outcome::{outcome, print_sent};
 use report::Report;
 use source::StdSource;
 use station::{Device, Ending, device_of, station};
 use std::env;
-use std::io::{ErrorKind, Write};
+use std::io::ErrorKind;
 use std::process::ExitCode;
 
 // The words behind the program's name.
@@ -29,12 +31,6 @@ fn words_of(rt: &HostRuntime) -> Result<Vec<String>, Report> {
     }
 }
 
-// Writes what the link in memory was sent to standard output.
-fn print_sent(rt: &HostRuntime, board: &MemBoard) -> bool {
-    let mut output = rt.stdout();
-    output.write_all(board.sent()).is_ok() && output.flush().is_ok()
-}
-
 // The session on a device in memory, whose words stand behind the first two.
 fn run_in_memory(rt: &HostRuntime, blocks: u32, words: &Vec<String>) -> Ending
     requires least { 16 ≤ blocks }
@@ -45,13 +41,8 @@ fn run_in_memory(rt: &HostRuntime, blocks: u32, words: &Vec<String>) -> Ending
     };
     let mut source = StdSource::new(rt.stdin());
     let ending = station(rt.alloc(), words, &mut source, &mut board);
-    if !print_sent(rt, &board) {
-        return Ending::LinkFault;
-    }
-    match ending {
-        Ending::LinkFault if board.starved() => Ending::NoMemory,
-        ending => ending,
-    }
+    let printed = print_sent(&mut rt.stdout(), &board);
+    outcome(ending, board.starved(), printed)
 }
 
 fn run(rt: &HostRuntime) -> Report {
@@ -75,3 +66,6 @@ fn main(rt: HostRuntime) -> ExitCode {
     }
     report.status()
 }
+
+#[cfg(test)]
+mod tests;

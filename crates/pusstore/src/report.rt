@@ -1,4 +1,6 @@
 // How the program ends, and what it says of it on standard error.
+ghost use Rattle.std.specs.Prelude.{◌≡◌, ◌↔◌, IsTrue};
+ghost use Rattle.std.specs.Process.{exit_status};
 
 use station::Ending;
 use std::fmt;
@@ -14,13 +16,20 @@ pub enum Report {
 }
 
 impl Report {
+    ghost use Rattle.pusstore.specs.Reports.{status_in};
+
     /// Whether all was done, so that there is nothing to say.
-    pub fn is_done(&self) -> bool {
+    pub fn is_done(&self) -> bool
+        ensures done { IsTrue result ↔ (self.now ≡ Report.Session Ending.Done) }
+        ensures zero { IsTrue result ↔ (status_in self.now ≡ 0) }
+    {
         matches!(self, Report::Session(Ending::Done))
     }
 
     /// The status of the process.
-    pub fn status(&self) -> ExitCode {
+    pub fn status(&self) -> ExitCode
+        ensures { exit_status result ≡ status_in self.now }
+    {
         match self {
             Report::Device => ExitCode::from(1),
             Report::Session(ending) => ExitCode::from(ending.status()),
