@@ -140,27 +140,34 @@ pub ends : (area : ℕ → List ℕ) (at : ℕ) (entries : List (List ℕ)) (end
 ends area at [] end has = has.1
 ends area at (entry ∷ entries) end has = ends area has.0 entries end has.2
 
--- the same entries, where the pages before the end are the same and nothing stands at the end
-pub entries_kept : (area new : ℕ → List ℕ) (at : ℕ) (entries : List (List ℕ)) (end : ℕ) → HasEntries area at entries end
-    → ((q : ℕ) → q < end → new q ≡ area q) → entry_at new end ≡ End → HasEntries new at entries end
+-- the same entries, where the pages up to the end are the same and nothing stands at the end
+pub entries_kept : (area new : ℕ → List ℕ) (at : ℕ) (entries : List (List ℕ)) (end : ℕ)
+    → HasEntries area at entries end → ((q : ℕ) → at ≤ q → q < end → new q ≡ area q)
+    → entry_at new end ≡ End → HasEntries new at entries end
 entries_kept area new at [] end has same shut = (has.0, shut)
 entries_kept area new at (entry ∷ entries) end has same shut =
-    let rest = at_le area has.0 entries end has.2 in (
+    let rest = at_le area has.0 entries end has.2 in
+    let fits = entry_fits area at entry has.0 has.1 in (
       has.0,
-      entry_same area new at entry has.0 has.1 (λ q from to. same q (omega (arith, rest, to))),
-      entries_kept area new has.0 entries end has.2 same shut,
+      entry_same area new at entry has.0 has.1 (λ q from to. same q from (omega (arith, rest, to))),
+      entries_kept area new has.0 entries end has.2
+          (λ q from to. same q (omega (arith, fits.0, from)) to) shut,
     )
 
--- one entry more, where the pages before the old end are the same
-pub entries_pushed : (area new : ℕ → List ℕ) (at : ℕ) (entries : List (List ℕ)) (end : ℕ) (entry : List ℕ) (next : ℕ) → HasEntries area at entries end
-    → ((q : ℕ) → q < end → new q ≡ area q) → entry_at new end ≡ Entry entry next → entry_at new next ≡ End → HasEntries new at (entries ++ entry ∷ []) next
+-- one entry more, where the pages up to the old end are the same
+pub entries_pushed : (area new : ℕ → List ℕ) (at : ℕ) (entries : List (List ℕ)) (end : ℕ)
+    (entry : List ℕ) (next : ℕ) → HasEntries area at entries end
+    → ((q : ℕ) → at ≤ q → q < end → new q ≡ area q) → entry_at new end ≡ Entry entry next
+    → entry_at new next ≡ End → HasEntries new at (entries ++ entry ∷ []) next
 entries_pushed area new at [] end entry next has same here shut =
     subst (λ (x : ℕ). HasEntries new x (entry ∷ []) next) (sym has.0) (next, here, (refl, shut))
 entries_pushed area new at (first ∷ entries) end entry next has same here shut =
-    let rest = at_le area has.0 entries end has.2 in (
+    let rest = at_le area has.0 entries end has.2 in
+    let fits = entry_fits area at first has.0 has.1 in (
       has.0,
-      entry_same area new at first has.0 has.1 (λ q from to. same q (omega (arith, rest, to))),
-      entries_pushed area new has.0 entries end entry next has.2 same here shut,
+      entry_same area new at first has.0 has.1 (λ q from to. same q from (omega (arith, rest, to))),
+      entries_pushed area new has.0 entries end entry next has.2
+          (λ q from to. same q (omega (arith, fits.0, from)) to) here shut,
     )
 
 pub blank≢open : blank ≢ open_page

@@ -1,8 +1,13 @@
 -- The pages of an area.
-use Rattle.std.proofs.Common.{◌≡◌, ℕ, zero, suc, ◌+◌, ◌<◌, ◌≤◌, Bool, true, false, nat_lt, List, [], ◌++◌, refl, sym, ◌∙◌, ap, ap₂, arith, append-nil, append_assoc, add-zero}
+use Rattle.std.proofs.Common.{◌≡◌, ℕ, zero, suc, ◌+◌, ◌*◌, ◌/◌, ◌%◌, ◌<◌, ◌≤◌, Bool, true, false, nat_lt}
+use Rattle.std.proofs.Common.{List, [], ◌++◌, refl, sym, ◌∙◌, ap, ap₂, arith, append-nil, append_assoc, add-zero}
 use Rattle.std.specs.Prelude.{if◌then◌else◌}
 use Rattle.std.proofs.lemmas.Bool.Decides.{nat_tests}
 use Rattle.commit_gate.specs.Entries.{area_of, octets_from}
+
+-- a page of an area, by its block
+pub page_number : (first at : ℕ) → 256 * (first + at / 256) + at % 256 ≡ 256 * first + at
+page_number first at = omega arith
 
 pub area_page : (base : ℕ) (content : ℕ → List ℕ) (q : ℕ) → q < 512 → area_of base content q ≡ content (base + q)
 unfolding area_of

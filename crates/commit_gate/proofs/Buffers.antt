@@ -1,7 +1,7 @@
 -- Pages of an area that were read into a buffer, and the text in them.
-use Rattle.std.proofs.Common.{◌≡◌, ℕ, ◌+◌, ◌-◌, ◌*◌, ◌≤◌, List, ◌++◌, length, take, drop, sym, ◌∙◌, ap, ap₂, arith, add-one, take-take, length-take, length-drop}
+use Rattle.std.proofs.Common.{◌≡◌, ℕ, ◌+◌, ◌-◌, ◌*◌, ◌<◌, ◌≤◌, List, ◌++◌, length, take, drop, sym, ◌∙◌, ap, ap₂, arith, add-one, take-take, length-take, length-drop}
 use borrow.Rule.Slice.PartMut.{put_mid}
-use Rattle.std.proofs.lemmas.Slice.{take-put_mid}
+use Rattle.std.proofs.lemmas.Slice.{drop-put_mid, take-put_mid, take-put_mid_below}
 use Rattle.std.proofs.lemmas.List.{drop-take, take-append-le, take_all}
 use Rattle.byteorder.specs.Endian.{big_number}
 use Rattle.byteorder.specs.Numbers.{big_from-append}
@@ -25,6 +25,18 @@ page_read area first i into page room long so_far is =
     ∙ ap₂ ◌++◌ so_far is
     ∙ sym (octets_last area i first)
     ∙ ap (octets_from area first) (sym (add-one i))
+
+-- a page that is written behind the first leaves it, and what is behind all pages
+pub front_kept : (i : ℕ) (into page : List ℕ) → 1 ≤ i → 256 * i + 256 ≤ length into
+    → take 256 (put_mid (256 * i) (256 * i + 256 - 256 * i) into page) ≡ take 256 into
+front_kept i into page some room =
+    take-put_mid_below (256 * i) (256 * i + 256 - 256 * i) into page 256 (omega arith) (omega arith)
+
+pub rest_kept : (i pages : ℕ) (into page : List ℕ) → i < pages → 256 * pages ≤ length into → length page ≡ 256
+    → drop (256 * pages) (put_mid (256 * i) (256 * i + 256 - 256 * i) into page) ≡ drop (256 * pages) into
+rest_kept i pages into page more room long =
+    drop-put_mid (256 * i) (256 * i + 256 - 256 * i) into page (256 * pages)
+    (omega arith) (omega arith) (omega arith)
 
 -- the text behind its length
 pub text_read : (area : ℕ → List ℕ) (first len : ℕ) (into : List ℕ) → take (256 * payload_pages len) into ≡ octets_from area first (payload_pages len)

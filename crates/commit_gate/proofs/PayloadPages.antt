@@ -1,7 +1,8 @@
 -- The flash while the payload of an entry is written, a page at a time.
 use Rattle.std.proofs.Common.{◌≡◌, ℕ, ◌+◌, ◌-◌, ◌<◌, ◌≤◌, true, false, List, sym, ◌∙◌, ap, subst, arith}
-use Rattle.board.specs.Flash.{Flash, IsClean, IsImage, loosened, only_page, pages_from, written}
-use Rattle.board.proofs.Pages.{above_pages, elsewhere, fewer_pages, none_of_pages, outside, written_more}
+use Rattle.board.specs.Flash.{Flash, IsClean, only_page, pages_from, written}
+use Rattle.board.proofs.Pages.{above_pages, elsewhere, none_of_pages, written_more}
+use Rattle.board.proofs.Touching.{Within}
 use Rattle.commit_gate.specs.Commits.{payload_at, payload_page}
 
 -- one page more
@@ -12,17 +13,11 @@ page_added first i entry page old mid new filled was step =
     let same : page ≡ payload_at first entry (first + i) = filled ∙ ap (payload_page entry) (sym index) in
     step ∙ (λ j. written (only_page (first + i)) (λ _. same j) (was j)) ∙ written_more first i (payload_at first entry) old
 
--- what a stop leaves while the page is written is what it may leave of the whole payload
-pub payload_image : (blocks first i n : ℕ) (entry : List ℕ) (old mid : Flash) (image : ℕ → List ℕ) → i < n → mid ≡ written (pages_from first i) (payload_at first entry) old
-    → IsImage blocks (loosened (only_page (first + i)) mid) image → IsImage blocks (loosened (pages_from first n) old) image
-payload_image blocks first i n entry old mid image more was is = record {
-  pages = is.pages;
-  firm_pages = λ p within loose.
-      let out = outside (pages_from first n p) (old.loose p) loose in
-      let known : IsImage blocks (loosened (only_page (first + i)) (written (pages_from first i) (payload_at first entry) old)) image = subst (λ (f : Flash). IsImage blocks (loosened (only_page (first + i)) f) image) was is in
-      known.firm_pages p within (elsewhere (only_page (first + i) p) true _ (none_of_pages first i n p more out.0) ∙ elsewhere (pages_from first i p) true (old.loose p) (fewer_pages first i n p (omega arith) out.0) ∙ out.1)
-      ∙ elsewhere (pages_from first i p) (payload_at first entry p) (old.content p) (fewer_pages first i n p (omega arith) out.0);
-}
+-- the next page is one of them all
+pub page_within : (first i n page : ℕ) → page ≡ first + i → i < n
+    → Within (only_page page) (pages_from first n)
+page_within first i n page number more p out =
+    subst (λ (k : ℕ). only_page k p ≡ false) (sym number) (none_of_pages first i n p more out)
 
 -- the page behind those that are written is still clean
 pub still_clean : (first i p : ℕ) (entry : List ℕ) (old mid : Flash) → mid ≡ written (pages_from first i) (payload_at first entry) old → first + i ≤ p → IsClean old p → IsClean mid p

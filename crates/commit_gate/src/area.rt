@@ -1,10 +1,10 @@
 // The pages of an area on a board.
-ghost use Rattle.std.specs.Prelude.{◌≡◌, ◌<◌, ◌≤◌, ◌+◌, ◌*◌, length, IsTrue, OnOk, OnErr};
-ghost use Rattle.board.specs.Counts.{Rose, Works};
-ghost use Rattle.board.specs.Flash.{IsClean, IsImage, loosened, only_page, written};
-ghost use Rattle.board.specs.Moments.{LeavesOnly, SendsNothing};
+ghost use Rattle.std.specs.Prelude.{◌≡◌, ◌⊎◌, ◌<◌, ◌≤◌, ◌+◌, ◌*◌, length, OnOk, OnErr};
+ghost use Rattle.board.specs.Counts.{Rose};
+ghost use Rattle.board.specs.Flash.{Fails, IsClean, only_page, written};
+ghost use Rattle.board.specs.Meaning.{TellsFlash};
 ghost use Rattle.board.specs.Reads.{ReadsOnly};
-ghost use Rattle.commit_gate.specs.Commits.{SameElsewhere};
+ghost use Rattle.board.specs.Touches.{SameElsewhere, Touches};
 ghost use Rattle.commit_gate.specs.Entries.{area_of};
 
 use board::{Board, Failed};
@@ -23,10 +23,15 @@ impl Area {
         requires place { at < 512 }
         requires length { length into.old ≡ 256 }
 
-        ensures read { OnOk result (IsTrue (B.means.device board.old).tells_flash → into.new ≡ area_of (256 * self.first) (B.means.flash board.old).content at) }
+        ensures read { OnOk result (TellsFlash B.means board.old
+            → into.new ≡ area_of (256 * self.first) (B.means.flash board.old).content at) }
         ensures reads { ReadsOnly B.means 1 board.old board.new }
-        ensures no_fault { OnOk result ((B.means.counts board.new).flash_faults ≡ (B.means.counts board.old).flash_faults) }
-        ensures cause { OnErr result (Rose (B.means.counts board.old).flash_faults (B.means.counts board.new).flash_faults) }
+        ensures counted { OnOk result
+            (Rose (B.means.counts board.old).reads (B.means.counts board.new).reads) }
+        ensures no_fault { OnOk result
+            ((B.means.counts board.new).flash_faults ≡ (B.means.counts board.old).flash_faults) }
+        ensures cause { OnErr result
+            (Rose (B.means.counts board.old).flash_faults (B.means.counts board.new).flash_faults) }
     {
         board.read_page(self.first + at / 256, at % 256, into)
     }
@@ -36,17 +41,26 @@ impl Area {
         requires first { self.first ≤ 5 }
         requires place { at < 512 }
         requires length { length from.now ≡ 256 }
-        requires clean { IsTrue (B.means.device board.old).tells_flash → IsClean (B.means.flash board.old) (256 * self.first + at) }
+        requires clean { TellsFlash B.means board.old
+            → IsClean (B.means.flash board.old) (256 * self.first + at) }
 
-        ensures ok { OnOk result (IsTrue (B.means.device board.old).tells_flash → B.means.flash board.new ≡ written (only_page (256 * self.first + at)) (λ _. from.now) (B.means.flash board.old)) }
-        ensures others { IsTrue (B.means.device board.old).tells_flash → SameElsewhere (only_page (256 * self.first + at)) (B.means.flash board.old) (B.means.flash board.new) }
-        ensures leaves { IsTrue (B.means.device board.old).tells_flash → LeavesOnly B.means board.old board.new
-            (IsImage (B.means.device board.old).blocks (loosened (only_page (256 * self.first + at)) (B.means.flash board.old))) }
-        ensures unsent { IsTrue (B.means.device board.old).tells_link → SendsNothing B.means board.old board.new }
-        ensures same { B.means.device board.new ≡ B.means.device board.old }
-        ensures work { Works 0 1 0 (B.means.counts board.old) (B.means.counts board.new) }
-        ensures no_fault { OnOk result ((B.means.counts board.new).flash_faults ≡ (B.means.counts board.old).flash_faults) }
-        ensures cause { OnErr result (Rose (B.means.counts board.old).flash_faults (B.means.counts board.new).flash_faults) }
+        ensures ok { OnOk result (TellsFlash B.means board.old → B.means.flash board.new
+            ≡ written (only_page (256 * self.first + at)) (λ _. from.now) (B.means.flash board.old)) }
+        ensures err { OnErr result (TellsFlash B.means board.old → Fails (only_page (256 * self.first + at))
+            (B.means.flash board.old) (B.means.flash board.new)) }
+        ensures others { TellsFlash B.means board.old → SameElsewhere (only_page (256 * self.first + at))
+            (B.means.flash board.old) (B.means.flash board.new) }
+        ensures later { TellsFlash B.means board.old → (B.means.flash board.new ≡ B.means.flash board.old)
+            ⊎ (B.means.moment board.old < B.means.moment board.new) }
+        ensures seen { OnOk result (TellsFlash B.means board.old
+            → B.means.images board.new (B.means.moment board.new) (B.means.flash board.new).content) }
+        ensures touches { Touches B.means (only_page (256 * self.first + at)) 1 0 0 board.old board.new }
+        ensures counted { OnOk result
+            (Rose (B.means.counts board.old).programs (B.means.counts board.new).programs) }
+        ensures no_fault { OnOk result
+            ((B.means.counts board.new).flash_faults ≡ (B.means.counts board.old).flash_faults) }
+        ensures cause { OnErr result
+            (Rose (B.means.counts board.old).flash_faults (B.means.counts board.new).flash_faults) }
     {
         board.program(self.first + at / 256, at % 256, from)
     }

@@ -1,9 +1,10 @@
 // The entries of an area, one after the other.
-ghost use Rattle.std.specs.Prelude.{◌≡◌, ◌⊎◌, ◌<◌, ◌≤◌, ◌*◌, length, IsTrue, IfOk, OnOk, OnErr};
-ghost use Rattle.board.specs.Counts.{Rose};
+ghost use Rattle.std.specs.Prelude.{◌≡◌, ◌⊎◌, ◌<◌, ◌≤◌, ◌*◌, length, IfOk, OnOk, OnErr};
+ghost use Rattle.board.specs.Counts.{Rose, RoseBy};
+ghost use Rattle.board.specs.Meaning.{TellsFlash};
 ghost use Rattle.board.specs.Reads.{ReadsOnly};
 ghost use Rattle.commit_gate.specs.Entries.{area_of, entry_at, is_open};
-ghost use Rattle.commit_gate.specs.Shown.{IsInArea, shown};
+ghost use Rattle.commit_gate.specs.Shown.{IsInArea, read_for, read_most, shown};
 
 use crate::area::Area;
 use crate::payload::{is_lawful, payload_pages};
@@ -34,10 +35,15 @@ fn read_gate<B: Board>(board: &mut B, area: Area, at: u32) -> Result<bool, Faile
     requires block { area.first ≤ 5 }
     requires place { at < 512 }
 
-    ensures shown { IfOk result (λ shown. IsTrue (B.means.device board.old).tells_flash → shown ≡ is_open (area_of (256 * area.first) (B.means.flash board.old).content at)) }
+    ensures shown { IfOk result (λ shown. TellsFlash B.means board.old
+        → shown ≡ is_open (area_of (256 * area.first) (B.means.flash board.old).content at)) }
     ensures reads { ReadsOnly B.means 1 board.old board.new }
-    ensures no_fault { OnOk result ((B.means.counts board.new).flash_faults ≡ (B.means.counts board.old).flash_faults) }
-    ensures cause { OnErr result (Rose (B.means.counts board.old).flash_faults (B.means.counts board.new).flash_faults) }
+    ensures counted { OnOk result
+        (Rose (B.means.counts board.old).reads (B.means.counts board.new).reads) }
+    ensures no_fault { OnOk result
+        ((B.means.counts board.new).flash_faults ≡ (B.means.counts board.old).flash_faults) }
+    ensures cause { OnErr result
+        (Rose (B.means.counts board.old).flash_faults (B.means.counts board.new).flash_faults) }
 {
     let mut page = [0; 256];
     area.read_page(board, at, &mut page)?;
@@ -45,7 +51,7 @@ fn read_gate<B: Board>(board: &mut B, area: Area, at: u32) -> Result<bool, Faile
 }
 
 /// What stands at the page `at`, at most 512, read into `buf`, which has at least 5,120 octets. Each page is
-/// read once. `Failed`: a read failed.
+/// read once, and none behind a gate that is not open. `Failed`: a read failed.
 pub fn next_entry<'a, B: Board>(
     board: &mut B,
     area: Area,
@@ -56,11 +62,16 @@ pub fn next_entry<'a, B: Board>(
     requires at { at ≤ 512 }
     requires room { 5120 ≤ length buf.old }
 
-    ensures next { IfOk result (λ next. IsTrue (B.means.device board.old).tells_flash → entry_at (area_of (256 * area.first) (B.means.flash board.old).content) at ≡ shown next) }
+    ensures next { IfOk result (λ next. TellsFlash B.means board.old
+        → entry_at (area_of (256 * area.first) (B.means.flash board.old).content) at ≡ shown next) }
     ensures range { IfOk result (λ next. IsInArea at next) }
-    ensures reads { ReadsOnly B.means 21 board.old board.new }
-    ensures no_fault { OnOk result ((B.means.counts board.new).flash_faults ≡ (B.means.counts board.old).flash_faults) }
-    ensures cause { OnErr result (Rose (B.means.counts board.old).flash_faults (B.means.counts board.new).flash_faults) }
+    ensures reads { ReadsOnly B.means (read_most at result) board.old board.new }
+    ensures counted { IfOk result (λ next. RoseBy (read_for at next)
+        (B.means.counts board.old).reads (B.means.counts board.new).reads) }
+    ensures no_fault { OnOk result
+        ((B.means.counts board.new).flash_faults ≡ (B.means.counts board.old).flash_faults) }
+    ensures cause { OnErr result
+        (Rose (B.means.counts board.old).flash_faults (B.means.counts board.new).flash_faults) }
 {
     if at > 510 {
         return Ok(Next::End);

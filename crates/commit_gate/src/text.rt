@@ -1,10 +1,10 @@
 // A text stands behind its length in four octets, highest first, with zeros to the end of its last page.
-ghost use Rattle.std.specs.Prelude.{◌≡◌, ◌<◌, ◌≤◌, ◌+◌, ◌-◌, ◌*◌, length, take, IsTrue, IfOk, OnOk, OnErr};
-ghost use Rattle.board.specs.Counts.{Rose, Works};
-ghost use Rattle.board.specs.Flash.{IsImage, loosened};
-ghost use Rattle.board.specs.Moments.{LeavesOnly, SendsNothing};
+ghost use Rattle.std.specs.Prelude.{◌≡◌, ◌<◌, ◌≤◌, ◌+◌, ◌-◌, ◌*◌, length, drop, take, IfOk, OnOk, OnErr};
+ghost use Rattle.board.specs.Counts.{Rose, RoseBy};
+ghost use Rattle.board.specs.Meaning.{TellsFlash};
 ghost use Rattle.board.specs.Reads.{ReadsOnly};
-ghost use Rattle.commit_gate.specs.Commits.{IsCleanFrom, SameElsewhere, text_pages, with_text};
+ghost use Rattle.board.specs.Touches.{SameElsewhere, Touches};
+ghost use Rattle.commit_gate.specs.Commits.{IsCleanFrom, text_pages, with_text};
 ghost use Rattle.commit_gate.specs.Entries.{area_of, length_in, octets_from, payload_pages};
 
 use crate::area::Area;
@@ -12,8 +12,8 @@ use crate::payload::{fill_page, payload_pages};
 use board::{Board, Failed};
 use byteorder::{BigEndian, ByteOrder};
 
-/// Programs a text of at most 20,476 octets into the pages from `first` on. `Failed`: a program failed;
-/// no other page changed.
+/// Programs a text of at most 20,476 octets into the pages from `first` on. Until a barrier, a stop may
+/// leave anything in them. `Failed`: a program failed; no other page changed.
 pub fn write_text<B: Board>(
     board: &mut B,
     area: Area,
@@ -23,17 +23,23 @@ pub fn write_text<B: Board>(
     requires block { area.first ≤ 5 }
     requires length { length text.now ≤ 20476 }
     requires room { first + payload_pages (length text.now) ≤ 512 }
-    requires clean { IsTrue (B.means.device board.old).tells_flash → IsCleanFrom (B.means.flash board.old) (256 * area.first) first }
+    requires clean { TellsFlash B.means board.old
+        → IsCleanFrom (B.means.flash board.old) (256 * area.first) first }
 
-    ensures ok { OnOk result (IsTrue (B.means.device board.old).tells_flash → B.means.flash board.new ≡ with_text (256 * area.first) first text.now (B.means.flash board.old)) }
-    ensures others { IsTrue (B.means.device board.old).tells_flash → SameElsewhere (text_pages (256 * area.first) first text.now) (B.means.flash board.old) (B.means.flash board.new) }
-    ensures leaves { IsTrue (B.means.device board.old).tells_flash → LeavesOnly B.means board.old board.new
-        (IsImage (B.means.device board.old).blocks (loosened (text_pages (256 * area.first) first text.now) (B.means.flash board.old))) }
-    ensures unsent { IsTrue (B.means.device board.old).tells_link → SendsNothing B.means board.old board.new }
-    ensures same { B.means.device board.new ≡ B.means.device board.old }
-    ensures work { Works 0 (payload_pages (length text.now)) 0 (B.means.counts board.old) (B.means.counts board.new) }
-    ensures no_fault { OnOk result ((B.means.counts board.new).flash_faults ≡ (B.means.counts board.old).flash_faults) }
-    ensures cause { OnErr result (Rose (B.means.counts board.old).flash_faults (B.means.counts board.new).flash_faults) }
+    ensures ok { OnOk result (TellsFlash B.means board.old → B.means.flash board.new
+        ≡ with_text (256 * area.first) first text.now (B.means.flash board.old)) }
+    ensures others { TellsFlash B.means board.old → SameElsewhere (text_pages (256 * area.first) first text.now)
+        (B.means.flash board.old) (B.means.flash board.new) }
+    ensures seen { OnOk result (TellsFlash B.means board.old
+        → B.means.images board.new (B.means.moment board.new) (B.means.flash board.new).content) }
+    ensures touches { Touches B.means (text_pages (256 * area.first) first text.now)
+        (payload_pages (length text.now)) 0 0 board.old board.new }
+    ensures programs { OnOk result (RoseBy (payload_pages (length text.now))
+        (B.means.counts board.old).programs (B.means.counts board.new).programs) }
+    ensures no_fault { OnOk result
+        ((B.means.counts board.new).flash_faults ≡ (B.means.counts board.old).flash_faults) }
+    ensures cause { OnErr result
+        (Rose (B.means.counts board.old).flash_faults (B.means.counts board.new).flash_faults) }
 {
     let mut page = [0; 256];
     for index in 0..payload_pages(text.len() as u32) {
@@ -44,7 +50,7 @@ pub fn write_text<B: Board>(
 }
 
 /// Reads the page `first` into the front of `buf`, at least 256 octets, and answers the length in its
-/// first four octets.
+/// first four octets. After `Failed`, those 256 octets are any. The rest of `buf` is left.
 pub fn read_length<B: Board>(
     board: &mut B,
     area: Area,
@@ -55,18 +61,25 @@ pub fn read_length<B: Board>(
     requires place { first < 512 }
     requires room { 256 ≤ length buf.old }
 
-    ensures page { OnOk result (IsTrue (B.means.device board.old).tells_flash → take 256 buf.new ≡ area_of (256 * area.first) (B.means.flash board.old).content first) }
-    ensures length { IfOk result (λ found. IsTrue (B.means.device board.old).tells_flash → found ≡ length_in (area_of (256 * area.first) (B.means.flash board.old).content first)) }
+    ensures page { OnOk result (TellsFlash B.means board.old
+        → take 256 buf.new ≡ area_of (256 * area.first) (B.means.flash board.old).content first) }
+    ensures length { IfOk result (λ found. TellsFlash B.means board.old
+        → found ≡ length_in (area_of (256 * area.first) (B.means.flash board.old).content first)) }
+    ensures rest { drop 256 buf.new ≡ drop 256 buf.old }
     ensures reads { ReadsOnly B.means 1 board.old board.new }
-    ensures no_fault { OnOk result ((B.means.counts board.new).flash_faults ≡ (B.means.counts board.old).flash_faults) }
-    ensures cause { OnErr result (Rose (B.means.counts board.old).flash_faults (B.means.counts board.new).flash_faults) }
+    ensures counted { OnOk result
+        (Rose (B.means.counts board.old).reads (B.means.counts board.new).reads) }
+    ensures no_fault { OnOk result
+        ((B.means.counts board.new).flash_faults ≡ (B.means.counts board.old).flash_faults) }
+    ensures cause { OnErr result
+        (Rose (B.means.counts board.old).flash_faults (B.means.counts board.new).flash_faults) }
 {
     area.read_page(board, first, &mut buf[..256])?;
     Ok(BigEndian::read_u32(buf))
 }
 
 /// Reads the pages behind the page `first`, whose octets stand in front of `buf`, until it has the
-/// octets of so many pages.
+/// octets of so many pages. After `Failed`, those behind the first page are any. The rest of `buf` is left.
 pub fn read_rest<B: Board>(
     board: &mut B,
     area: Area,
@@ -78,13 +91,20 @@ pub fn read_rest<B: Board>(
     requires some { 1 ≤ pages }
     requires within { first + pages ≤ 512 }
     requires room { 256 * pages ≤ length buf.old }
-    requires page { IsTrue (B.means.device board.old).tells_flash → take 256 buf.old ≡ area_of (256 * area.first) (B.means.flash board.old).content first }
+    requires page { TellsFlash B.means board.old
+        → take 256 buf.old ≡ area_of (256 * area.first) (B.means.flash board.old).content first }
 
-    ensures read { OnOk result (IsTrue (B.means.device board.old).tells_flash
-        → take (256 * pages) buf.new ≡ octets_from (area_of (256 * area.first) (B.means.flash board.old).content) first pages) }
+    ensures read { OnOk result (TellsFlash B.means board.old → take (256 * pages) buf.new
+        ≡ octets_from (area_of (256 * area.first) (B.means.flash board.old).content) first pages) }
+    ensures front { take 256 buf.new ≡ take 256 buf.old }
+    ensures rest { drop (256 * pages) buf.new ≡ drop (256 * pages) buf.old }
     ensures reads { ReadsOnly B.means (pages - 1) board.old board.new }
-    ensures no_fault { OnOk result ((B.means.counts board.new).flash_faults ≡ (B.means.counts board.old).flash_faults) }
-    ensures cause { OnErr result (Rose (B.means.counts board.old).flash_faults (B.means.counts board.new).flash_faults) }
+    ensures counted { OnOk result
+        (RoseBy (pages - 1) (B.means.counts board.old).reads (B.means.counts board.new).reads) }
+    ensures no_fault { OnOk result
+        ((B.means.counts board.new).flash_faults ≡ (B.means.counts board.old).flash_faults) }
+    ensures cause { OnErr result
+        (Rose (B.means.counts board.old).flash_faults (B.means.counts board.new).flash_faults) }
 {
     for i in 1..pages {
         let start = 256 * i as usize;

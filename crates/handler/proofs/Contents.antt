@@ -6,7 +6,7 @@ use Rattle.space_packet.specs.Charge.{charge_of}
 use Rattle.handler.specs.declared.packets.Packet.{Packet}
 use Rattle.handler.specs.Kept.{leaving, packets_of, stored_of}
 use Rattle.pst_model.specs.Rules.{has_room}
-use Rattle.pst_model.specs.Table.{Stored, boot_store, content_in}
+use Rattle.pst_model.specs.Table.{boot_store, content_in}
 use Rattle.pst_model.proofs.Leasts.{least-is}
 use Rattle.pst_model.proofs.StoredPages.{content_in-append}
 

@@ -15,29 +15,29 @@ data Each (P : RequestKind → Type 0) : List RequestKind → Type 0 where
 
 readers : Each IsReader kinds
 readers =
-    pattern_reader 1 ForwardAdd (λ p. refl) (λ p. refl) (λ p is. is) (λ p fits. fits) (λ p. refl)
-    and pattern_reader 2 ForwardDelete (λ p. refl) (λ p. refl) (λ p is. is) (λ p fits. fits) (λ p. refl)
+    pattern_reader 1 ForwardAdd (λ p. refl) (λ p. refl) (λ p is. is) (λ p fits. (fits, tt)) (λ p. refl)
+    and pattern_reader 2 ForwardDelete (λ p. refl) (λ p. refl) (λ p is. is) (λ p fits. (fits, tt)) (λ p. refl)
     and empty_reader 14 3 ForwardReport refl refl tt tt refl
-    and listed_store 1 Enable (λ n. refl) (λ n. refl) (λ n. tt) (λ n fits. fits) (λ n. refl)
-    and listed_store 2 Disable (λ n. refl) (λ n. refl) (λ n. tt) (λ n fits. fits) (λ n. refl)
-    and types_reader 3 AddTypes (λ n p. refl) (λ n p. refl) (λ n p is. is) (λ n p fits pattern. (fits, pattern)) (λ n p. refl)
-    and types_reader 4 DeleteTypes (λ n p. refl) (λ n p. refl) (λ n p is. is) (λ n p fits pattern. (fits, pattern)) (λ n p. refl)
-    and store_reader false 15 5 ReportTypes (λ n. refl) (λ n. refl) (λ n. tt) (λ n fits. fits) (λ n. refl)
+    and listed_store 1 Enable (λ n. refl) (λ n. refl) (λ n. tt) (λ n fits. (fits, tt)) (λ n. refl)
+    and listed_store 2 Disable (λ n. refl) (λ n. refl) (λ n. tt) (λ n fits. (fits, tt)) (λ n. refl)
+    and types_reader 3 AddTypes (λ n p. refl) (λ n p. refl) (λ n p is. is) (λ n p fits pattern. (fits, (pattern, tt))) (λ n p. refl)
+    and types_reader 4 DeleteTypes (λ n p. refl) (λ n p. refl) (λ n p is. is) (λ n p fits pattern. (fits, (pattern, tt))) (λ n p. refl)
+    and store_reader false 15 5 ReportTypes (λ n. refl) (λ n. refl) (λ n. tt) (λ n fits. (fits, tt)) (λ n. refl)
     and start_range_reader
-    and time_reader 11 DeleteUpTo (λ n t. refl) (λ n t. refl) (λ n t fits. fits) (λ n t fits. fits) (λ n t. refl)
-    and listed_store 12 Summary (λ n. refl) (λ n. refl) (λ n. tt) (λ n fits. fits) (λ n. refl)
-    and time_reader 14 OpenFrom (λ n t. refl) (λ n t. refl) (λ n t fits. fits) (λ n t fits. fits) (λ n t. refl)
-    and listed_store 15 Resume (λ n. refl) (λ n. refl) (λ n. tt) (λ n fits. fits) (λ n. refl)
-    and listed_store 16 Suspend (λ n. refl) (λ n. refl) (λ n. tt) (λ n fits. fits) (λ n. refl)
-    and listed_store 17 Abort (λ n. refl) (λ n. refl) (λ n. tt) (λ n fits. fits) (λ n. refl)
+    and time_reader 11 DeleteUpTo (λ n t. refl) (λ n t. refl) (λ n t fits. fits) (λ n t fits time. (fits, (time, tt))) (λ n t. refl)
+    and listed_store 12 Summary (λ n. refl) (λ n. refl) (λ n. tt) (λ n fits. (fits, tt)) (λ n. refl)
+    and time_reader 14 OpenFrom (λ n t. refl) (λ n t. refl) (λ n t fits. fits) (λ n t fits time. (fits, (time, tt))) (λ n t. refl)
+    and listed_store 15 Resume (λ n. refl) (λ n. refl) (λ n. tt) (λ n fits. (fits, tt)) (λ n. refl)
+    and listed_store 16 Suspend (λ n. refl) (λ n. refl) (λ n. tt) (λ n fits. (fits, tt)) (λ n. refl)
+    and listed_store 17 Abort (λ n. refl) (λ n. refl) (λ n. tt) (λ n fits. (fits, tt)) (λ n. refl)
     and empty_reader 15 18 Status refl refl tt tt refl
     and create_reader
-    and listed_store 21 Remove (λ n. refl) (λ n. refl) (λ n. tt) (λ n fits. fits) (λ n. refl)
+    and listed_store 21 Remove (λ n. refl) (λ n. refl) (λ n. tt) (λ n fits. (fits, tt)) (λ n. refl)
     and empty_reader 15 22 Configuration refl refl tt tt refl
     and copy_reader
     and resize_reader
-    and listed_store 26 ToCircular (λ n. refl) (λ n. refl) (λ n. tt) (λ n fits. fits) (λ n. refl)
-    and listed_store 27 ToBounded (λ n. refl) (λ n. refl) (λ n. tt) (λ n fits. fits) (λ n. refl)
+    and listed_store 26 ToCircular (λ n. refl) (λ n. refl) (λ n. tt) (λ n fits. (fits, tt)) (λ n. refl)
+    and listed_store 27 ToBounded (λ n. refl) (λ n. refl) (λ n. tt) (λ n fits. (fits, tt)) (λ n. refl)
     and channel_reader
     and nothing
 

@@ -70,7 +70,7 @@ pub listed_store : (subtype : ℕ) (make : ℕ → Instruction) → ((n : ℕ) �
 listed_store subtype make = store_reader true 15 subtype make
 
 pub time_reader : (subtype : ℕ) (make : ℕ → ℕ → Instruction) → ((n t : ℕ) → kind_asked (make n t) ≡ (15, subtype)) → ((n t : ℕ) → is_alone (make n t) ≡ false)
-    → ((n t : ℕ) → t < 2 ^ 48 → IsInstruction (make n t)) → ((n t : ℕ) → n < 65536 → HasOctets (make n t)) → ((n t : ℕ) → item_of (make n t) ≡ big_bytes 2 n ++ big_bytes 6 t)
+    → ((n t : ℕ) → t < 2 ^ 48 → IsInstruction (make n t)) → ((n t : ℕ) → n < 65536 → t < 2 ^ 48 → HasOctets (make n t)) → ((n t : ℕ) → item_of (make n t) ≡ big_bytes 2 n ++ big_bytes 6 t)
     → IsReader (list_of 15 subtype (store_field ∷ time_field ∷ []) (λ item. make (field 2 0 item) (field 6 2 item)))
 time_reader subtype make asked lone lawful fits octets_are octets fit long right =
     let store = field 2 0 octets in
@@ -78,7 +78,7 @@ time_reader subtype make asked lone lawful fits octets_are octets fit long right
       asked = asked store time;
       lone = lone store time;
       lawful = lawful store time (field-lt 6 2 octets fit);
-      fits = fits store time (field-lt 2 0 octets fit);
+      fits = fits store time (field-lt 2 0 octets fit) (field-lt 6 2 octets fit);
       octets_are = (Stands-then (Stands-number 2 0 octets fit (omega arith)) (Stands-number 6 2 octets fit long)).is ∙ ap (λ (l : List ℕ). l ++ drop 8 octets) (sym (octets_are store time));
     }
 
@@ -87,7 +87,7 @@ start_range_reader octets fit long right = record {
   asked = refl;
   lone = refl;
   lawful = (field-lt 6 2 octets fit, field-lt 6 8 octets fit);
-  fits = field-lt 2 0 octets fit;
+  fits = (field-lt 2 0 octets fit, (field-lt 6 2 octets fit, (field-lt 6 8 octets fit, tt)));
   octets_are =
       (Stands-then (Stands-then (Stands-number 2 0 octets fit (omega arith)) (Stands-number 6 2 octets fit (omega arith))) (Stands-number 6 8 octets fit long)).is;
 }
@@ -97,7 +97,7 @@ copy_reader octets fit long right = record {
   asked = refl;
   lone = refl;
   lawful = (field-lt 6 4 octets fit, field-lt 6 10 octets fit);
-  fits = (field-lt 2 0 octets fit, field-lt 2 2 octets fit);
+  fits = (field-lt 2 0 octets fit, (field-lt 2 2 octets fit, (field-lt 6 4 octets fit, (field-lt 6 10 octets fit, tt))));
   octets_are =
       let stores = Stands-then (Stands-number 2 0 octets fit (omega arith)) (Stands-number 2 2 octets fit (omega arith)) in
       (Stands-then (Stands-then stores (Stands-number 6 4 octets fit (omega arith))) (Stands-number 6 10 octets fit long)).is;
@@ -108,7 +108,7 @@ resize_reader octets fit long right = record {
   asked = refl;
   lone = refl;
   lawful = tt;
-  fits = (field-lt 2 0 octets fit, field-lt 4 2 octets fit);
+  fits = (field-lt 2 0 octets fit, (field-lt 4 2 octets fit, tt));
   octets_are = (Stands-then (Stands-number 2 0 octets fit (omega arith)) (Stands-number 4 2 octets fit long)).is;
 }
 
@@ -117,7 +117,7 @@ channel_reader octets fit long right = record {
   asked = refl;
   lone = refl;
   lawful = tt;
-  fits = (field-lt 2 0 octets fit, octet-lt octets fit 2);
+  fits = (field-lt 2 0 octets fit, (octet-lt octets fit 2, tt));
   octets_are = (Stands-then (Stands-number 2 0 octets fit (omega arith)) (Stands-octet 2 octets (omega arith))).is;
 }
 
@@ -137,7 +137,7 @@ create_reader octets fit long right =
       asked = refl;
       lone = refl;
       lawful = tt;
-      fits = (field-lt 2 0 octets fit, field-lt 4 3 octets fit, octet-lt octets fit 7);
+      fits = (field-lt 2 0 octets fit, (tt, (field-lt 4 3 octets fit, (octet-lt octets fit 7, tt))));
       octets_are = all.is ∙ ap (λ (octet : ℕ). (((big_bytes 2 (field 2 0 octets) ++ octet ∷ []) ++ big_bytes 4 (field 4 3 octets)) ++ slice_index octets 7 ∷ []) ++ drop 8 octets) (sym kind);
     }
 

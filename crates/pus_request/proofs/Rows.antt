@@ -10,34 +10,12 @@ use Rattle.pst_model.proofs.KindsFound.{reader_found}
 use Rattle.pst_model.proofs.RequestData.{spelled-by_kind}
 use Rattle.pst_model.proofs.WholeRequests.{whole-from_none}
 use Rattle.pus_request.specs.declared.kinds.Kind.{Kind}
-use Rattle.pus_request.specs.declared.kinds.Kind.TheVariants.{ForwardAdd, ForwardDelete, ForwardReport, Enable, Disable, AddTypes, DeleteTypes, ReportTypes, StartRange, DeleteUpTo, Summary, OpenFrom, Resume, Suspend, Abort, Status, Create, Remove, Configuration, Copy, Resize, ToCircular, ToBounded, Channel}
+use Rattle.pus_request.specs.declared.kinds.Kind.TheVariants.{ForwardAdd}
 use Rattle.pus_request.specs.Kinds.{asked_by, row_of}
 
 pub found-row : (kind : Kind) → kind_in (asked_by kind).0 (asked_by kind).1 ≡ Some (row_of kind)
 found-row ForwardAdd = refl
-found-row ForwardDelete = refl
-found-row ForwardReport = refl
-found-row Enable = refl
-found-row Disable = refl
-found-row AddTypes = refl
-found-row DeleteTypes = refl
-found-row ReportTypes = refl
-found-row StartRange = refl
-found-row DeleteUpTo = refl
-found-row Summary = refl
-found-row OpenFrom = refl
-found-row Resume = refl
-found-row Suspend = refl
-found-row Abort = refl
-found-row Status = refl
-found-row Create = refl
-found-row Remove = refl
-found-row Configuration = refl
-found-row Copy = refl
-found-row Resize = refl
-found-row ToCircular = refl
-found-row ToBounded = refl
-found-row Channel = refl
+found-row _ = refl
 
 -- a kind that is found by a service type and a message subtype has these
 pub asked-found : (kind : Kind) (service subtype : ℕ) → kind_in service subtype ≡ Some (row_of kind) → asked_by kind ≡ (service, subtype)

@@ -1,5 +1,5 @@
 // The kinds of request of services 14 and 15 (ECSS-E-ST-70-41C, 8.14.2 and 8.15.2).
-ghost use Rattle.std.specs.Prelude.{◌≡◌, MatchOption, None, Some};
+ghost use Rattle.std.specs.Prelude.{◌≡◌, MatchOption, None, Some, true, false};
 ghost use Rattle.pst_model.specs.Layouts.{kind_in};
 ghost use Rattle.pus_request.specs.Kinds.{row_of};
 
@@ -32,6 +32,43 @@ pub(crate) enum Kind {
     ToCircular,
     ToBounded,
     Channel,
+}
+
+/// What the requests of a kind look like.
+#[derive(Clone, Copy)]
+pub(crate) struct Layout {
+    /// The service type.
+    pub service: u8,
+    /// The message subtype.
+    pub subtype: u8,
+    /// Whether the data is a list, with the number of items in front, and not one item alone.
+    pub is_list: bool,
+    /// The octets of an item: at most 16.
+    pub width: usize,
+}
+
+// Requests with a list of items of this width.
+fn list(service: u8, subtype: u8, width: usize) -> Layout
+    ensures { result ≡ record { service = service; subtype = subtype; is_list = true; width = width } }
+{
+    Layout {
+        service,
+        subtype,
+        is_list: true,
+        width,
+    }
+}
+
+// Requests with one item of this width alone.
+fn alone(service: u8, subtype: u8, width: usize) -> Layout
+    ensures { result ≡ record { service = service; subtype = subtype; is_list = false; width = width } }
+{
+    Layout {
+        service,
+        subtype,
+        is_list: false,
+        width,
+    }
 }
 
 /// The kind of requests of service 14 with this message subtype.
@@ -126,74 +163,39 @@ impl Kind {
         }
     }
 
-    /// The service type.
-    pub(crate) fn service(self) -> u8
-        ensures { result ≡ (asked_by self).0 }
+    /// What its requests look like.
+    pub(crate) fn layout(self) -> Layout
+        ensures service { result.service ≡ (asked_by self).0 }
+        ensures subtype { result.subtype ≡ (asked_by self).1 }
+        ensures list { result.is_list ≡ (row_of self).is_list }
+        ensures width { result.width ≡ width_of (row_of self).fields }
+        ensures narrow { result.width ≤ 16 }
     {
         match self {
-            Kind::ForwardAdd | Kind::ForwardDelete | Kind::ForwardReport => FORWARDING,
-            _ => STORAGE,
-        }
-    }
-
-    /// The message subtype.
-    pub(crate) fn subtype(self) -> u8
-        ensures { result ≡ (asked_by self).1 }
-    {
-        match self {
-            Kind::ForwardAdd => 1,
-            Kind::ForwardDelete => 2,
-            Kind::ForwardReport => 3,
-            Kind::Enable => 1,
-            Kind::Disable => 2,
-            Kind::AddTypes => 3,
-            Kind::DeleteTypes => 4,
-            Kind::ReportTypes => 5,
-            Kind::StartRange => 9,
-            Kind::DeleteUpTo => 11,
-            Kind::Summary => 12,
-            Kind::OpenFrom => 14,
-            Kind::Resume => 15,
-            Kind::Suspend => 16,
-            Kind::Abort => 17,
-            Kind::Status => 18,
-            Kind::Create => 20,
-            Kind::Remove => 21,
-            Kind::Configuration => 22,
-            Kind::Copy => 24,
-            Kind::Resize => 25,
-            Kind::ToCircular => 26,
-            Kind::ToBounded => 27,
-            Kind::Channel => 28,
-        }
-    }
-
-    /// Whether its data is a list, with the number of items in front, and not one item alone.
-    pub(crate) fn is_list(self) -> bool
-        ensures { result ≡ (row_of self).is_list }
-    {
-        match self {
-            Kind::ForwardReport | Kind::ReportTypes | Kind::Status | Kind::Configuration => false,
-            _ => true,
-        }
-    }
-
-    /// The octets of an item: at most 16.
-    pub(crate) fn width(self) -> usize
-        ensures width { result ≡ width_of (row_of self).fields }
-        ensures narrow { result ≤ 16 }
-    {
-        match self {
-            Kind::ForwardReport | Kind::Status | Kind::Configuration => 0,
-            Kind::ForwardAdd | Kind::ForwardDelete => 5,
-            Kind::AddTypes | Kind::DeleteTypes => 7,
-            Kind::StartRange => 14,
-            Kind::DeleteUpTo | Kind::OpenFrom => 8,
-            Kind::Create => 8,
-            Kind::Copy => 16,
-            Kind::Resize => 6,
-            Kind::Channel => 3,
-            _ => 2,
+            Kind::ForwardAdd => list(FORWARDING, 1, 5),
+            Kind::ForwardDelete => list(FORWARDING, 2, 5),
+            Kind::ForwardReport => alone(FORWARDING, 3, 0),
+            Kind::Enable => list(STORAGE, 1, 2),
+            Kind::Disable => list(STORAGE, 2, 2),
+            Kind::AddTypes => list(STORAGE, 3, 7),
+            Kind::DeleteTypes => list(STORAGE, 4, 7),
+            Kind::ReportTypes => alone(STORAGE, 5, 2),
+            Kind::StartRange => list(STORAGE, 9, 14),
+            Kind::DeleteUpTo => list(STORAGE, 11, 8),
+            Kind::Summary => list(STORAGE, 12, 2),
+            Kind::OpenFrom => list(STORAGE, 14, 8),
+            Kind::Resume => list(STORAGE, 15, 2),
+            Kind::Suspend => list(STORAGE, 16, 2),
+            Kind::Abort => list(STORAGE, 17, 2),
+            Kind::Status => alone(STORAGE, 18, 0),
+            Kind::Create => list(STORAGE, 20, 8),
+            Kind::Remove => list(STORAGE, 21, 2),
+            Kind::Configuration => alone(STORAGE, 22, 0),
+            Kind::Copy => list(STORAGE, 24, 16),
+            Kind::Resize => list(STORAGE, 25, 6),
+            Kind::ToCircular => list(STORAGE, 26, 2),
+            Kind::ToBounded => list(STORAGE, 27, 2),
+            Kind::Channel => list(STORAGE, 28, 3),
         }
     }
 
@@ -202,14 +204,14 @@ impl Kind {
         ensures front { result ≡ front_of (row_of self) }
         ensures one { result ≤ 1 }
     {
-        if self.is_list() { 1 } else { 0 }
+        if self.layout().is_list { 1 } else { 0 }
     }
 
     /// How many items data says that it has.
     pub(crate) fn count_in(self, body: &[u8]) -> u8
         ensures { result ≡ count_in (row_of self) body.now }
     {
-        if !self.is_list() {
+        if !self.layout().is_list {
             1
         } else if body.is_empty() {
             0
@@ -223,6 +225,6 @@ impl Kind {
         requires { number ≤ 32 }
         ensures { result ≡ place_of (row_of self) number }
     {
-        self.front() + number * self.width()
+        self.front() + number * self.layout().width
     }
 }

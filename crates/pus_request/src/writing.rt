@@ -33,8 +33,9 @@ fn write_headers(count: u16, acks: u8, kind: Kind, source: u16, size: u16, out: 
     };
     write_primary(head, out);
     put_u8(out, 6, PUS_VERSION * 16 + acks);
-    put_u8(out, 7, kind.service());
-    put_u8(out, 8, kind.subtype());
+    let layout = kind.layout();
+    put_u8(out, 7, layout.service);
+    put_u8(out, 8, layout.subtype);
     put_u16(out, 9, source);
 }
 
@@ -43,7 +44,7 @@ fn put_count(kind: Kind, count: u8, out: &mut [u8], at: usize)
     requires { at < length out.old }
     ensures { Writes out.old out.new at (if (row_of kind).is_list then count ∷ [] else []) }
 {
-    if kind.is_list() {
+    if kind.layout().is_list {
         put_u8(out, at, count);
     }
 }

@@ -1,5 +1,5 @@
 // Standard input as the source of a session text.
-ghost use Rattle.std.specs.Prelude.{◌≡◌, ◌≤◌, ◌<◌, false, [], length, take, IfOk, IfSome, IfNone, OnErr, OnOk};
+ghost use Rattle.std.specs.Prelude.{◌≡◌, ◌≤◌, ◌<◌, ◌+◌, false, [], length, take, IfOk, IfSome, IfNone, OnErr, OnOk};
 ghost use Rattle.std.specs.Io.KnownBytes.{Consumes, IsAtEnd, Keeps};
 ghost use Rattle.board.specs.Counts.{Rose};
 
@@ -12,12 +12,17 @@ use std::io::{ErrorKind, Read};
 pub struct StdSource<R: Read + Drop> {
     input: R,
     faults: u64,
+    takes: u64,
 }
 
 impl<R: Read + Drop> StdSource<R> {
     /// The source that reads from `input`.
     pub fn new(input: R) -> StdSource<R> {
-        StdSource { input, faults: 0 }
+        StdSource {
+            input,
+            faults: 0,
+            takes: 0,
+        }
     }
 }
 
@@ -39,7 +44,7 @@ fn read_some<R: Read>(input: &mut R, into: &mut [u8]) -> Option<usize>
 }
 
 impl<R: Read + Drop> Source for StdSource<R> {
-    ghost means = { record { tells = λ source. false; left = λ source. []; faults = λ source. source.faults } };
+    ghost means = { record { tells = λ source. false; left = λ source. []; faults = λ source. source.faults; takes = λ source. source.takes } };
 
     fn take(&mut self, into: &mut [u8]) -> Result<usize, Failed>
         requires { 0 < length into.old }
@@ -48,9 +53,12 @@ impl<R: Read + Drop> Source for StdSource<R> {
         ensures end { IfOk result (λ count. count ≡ 0 → IsAtEnd (R.remaining self.new.input)) }
         ensures kept { OnErr result (Keeps (R.remaining self.old.input) (R.remaining self.new.input)) }
         ensures faults { self.old.faults ≤ self.new.faults }
+        ensures takes { (self.old.takes ≤ self.new.takes) × (self.new.takes ≤ self.old.takes + 1) }
+        ensures counted { OnOk result (Rose self.old.takes self.new.takes) }
         ensures no_fault { OnOk result (self.new.faults ≡ self.old.faults) }
         ensures cause { OnErr result (Rose self.old.faults self.new.faults) }
     {
+        self.takes = self.takes.saturating_add(1);
         match read_some(&mut self.input, into) {
             Some(count) => Ok(count),
             None => {

@@ -25,9 +25,17 @@ moment_of board = length board.steps.items
 abbrev pub sent_at : HalfBoard → ℕ → List ℕ
 sent_at board t = take (sum (take t board.steps.items)) board.sent.items
 
--- how often flash and link have failed; no flash call does any work
+-- how often flash and link have failed, and how often the link was called; no flash call does any work
 abbrev pub counts_of : HalfBoard → Counts
-counts_of board = record { flash_faults = board.flash_faults; link_faults = board.link_faults; reads = 0; programs = 0; erases = 0 }
+counts_of board = record {
+  flash_faults = board.flash_faults;
+  link_faults = board.link_faults;
+  reads = 0;
+  programs = 0;
+  erases = 0;
+  barriers = 0;
+  sends = board.made;
+}
 
 -- all of it as one value
 abbrev pub half_means : BoardMeaning HalfBoard
@@ -57,7 +65,7 @@ pub record IsNewBoard (blocks : ℕ) (board : HalfBoard) : Type 0 where
   pub device : device_of board ≡ record { blocks = blocks; tells_flash = false; tells_link = true }
   pub moment : moment_of board ≡ 0
   pub sent : sent_at board (moment_of board) ≡ []
-  pub counts : counts_of board ≡ record { flash_faults = 0; link_faults = 0; reads = 0; programs = 0; erases = 0 }
+  pub counts : counts_of board ≡ record { flash_faults = 0; link_faults = 0; reads = 0; programs = 0; erases = 0; barriers = 0; sends = 0 }
   pub made : sends_made board ≡ 0
   pub planned : planned_send board ≡ None
   pub starved : is_starved board ≡ false
@@ -100,5 +108,5 @@ pub record SendFails (bytes : List ℕ) (old new : HalfBoard) : Type 0 where
 -- A send that succeeds was not planned to fail, and sends all.
 pub record SendSucceeds (bytes : List ℕ) (old new : HalfBoard) : Type 0 where
   pub unplanned : ¬ (IsPlannedSend old new)
-  pub counts : counts_of new ≡ counts_of old
+  pub faults : (counts_of new).link_faults ≡ (counts_of old).link_faults
   pub sends : SendsThese bytes old new

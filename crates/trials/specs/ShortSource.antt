@@ -29,7 +29,7 @@ faults_of source = source.faults
 
 -- all of it as one value
 abbrev pub short_means : SourceMeaning ShortSource
-short_means = record { tells = tells_left; left = left_of; faults = faults_of }
+short_means = record { tells = tells_left; left = left_of; faults = faults_of; takes = takes_made }
 
 -- A text of which nothing was taken.
 pub record IsNewSource (bytes : List ℕ) (at_most : ℕ) (source : ShortSource) : Type 0 where

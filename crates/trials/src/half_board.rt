@@ -102,8 +102,9 @@ impl Board for HalfBoard {
     ghost use Rattle.std.specs.Prelude.{◌⊎◌};
     ghost use Rattle.std.proofs.lemmas.Bool.{false≢true};
     ghost use Rattle.board.specs.Counts.{Sends};
-    ghost use Rattle.board.specs.Flash.{IsImage};
-    ghost use Rattle.board.specs.Moments.{GainsFront, LeavesOnly, SendsOnly};
+    ghost use Rattle.board.specs.Meaning.{TellsFlash, TellsLink};
+    ghost use Rattle.board.specs.Moments.{GainsFront, SendsOnly};
+    ghost use Rattle.board.specs.Reads.{FlashStays};
     ghost use Rattle.trials.specs.HalfBoard.{CountsSend, SendFails, SendSucceeds, counts_of, device_of, flash_of, half_means, image_at, moment_of, sent_at};
 
     ghost means = { half_means };
@@ -143,29 +144,21 @@ impl Board for HalfBoard {
     }
 
     fn send(&mut self, bytes: &[u8]) -> Result<(), Failed>
-        ensures ok { OnOk result (IsTrue (device_of self.old).tells_link
-            → sent_at self.new (moment_of self.new) ≡ sent_at self.old (moment_of self.old) ++ bytes.now) }
-        ensures any_moment { IsTrue (device_of self.old).tells_link
-            → SendsOnly half_means self.old self.new
+        ensures ok { OnOk result (TellsLink half_means self.old → sent_at self.new (moment_of self.new)
+            ≡ sent_at self.old (moment_of self.old) ++ bytes.now) }
+        ensures any_moment { TellsLink half_means self.old → SendsOnly half_means self.old self.new
             (GainsFront (sent_at self.old (moment_of self.old)) bytes.now) }
-        ensures later { IsTrue (device_of self.old).tells_link
-            → (sent_at self.new (moment_of self.new) ≡ sent_at self.old (moment_of self.old))
-            ⊎ (moment_of self.old < moment_of self.new) }
-        ensures flash { IsTrue (device_of self.old).tells_flash → flash_of self.new ≡ flash_of self.old }
-        ensures seen { IsTrue (device_of self.old).tells_flash
-            → image_at self.old (moment_of self.old) (flash_of self.old).content
-            → image_at self.new (moment_of self.new) (flash_of self.new).content }
-        ensures leaves { IsTrue (device_of self.old).tells_flash
-            → LeavesOnly half_means self.old self.new
-            (IsImage (device_of self.old).blocks (flash_of self.old)) }
+        ensures later { TellsLink half_means self.old → (sent_at self.new (moment_of self.new)
+            ≡ sent_at self.old (moment_of self.old)) ⊎ (moment_of self.old < moment_of self.new) }
+        ensures stays { TellsFlash half_means self.old → FlashStays half_means self.old self.new }
         ensures same { device_of self.new ≡ device_of self.old }
-        ensures work { Sends (counts_of self.old) (counts_of self.new) }
+        ensures work { Sends 1 (counts_of self.old) (counts_of self.new) }
+        ensures counted { OnOk result (Rose (counts_of self.old).sends (counts_of self.new).sends) }
         ensures no_fault { OnOk result ((counts_of self.new).link_faults ≡ (counts_of self.old).link_faults) }
-        ensures cause { OnErr result
-            (Rose (counts_of self.old).link_faults (counts_of self.new).link_faults) }
+        ensures cause { OnErr result (Rose (counts_of self.old).link_faults (counts_of self.new).link_faults) }
 
         // It fails where it is planned to, behind half of the octets, and else only for want of memory.
-        ensures counted { CountsSend self.old self.new }
+        ensures made { CountsSend self.old self.new }
         ensures done { OnOk result (SendSucceeds bytes.now self.old self.new) }
         ensures failed { OnErr result (SendFails bytes.now self.old self.new) }
     {

@@ -62,10 +62,12 @@ impl Source for ShortSource {
             → left_of self.new ≡ left_of self.old) }
         ensures same { tells_left self.new ≡ tells_left self.old }
         ensures faults { faults_of self.old ≤ faults_of self.new }
+        ensures takes { (takes_made self.old ≤ takes_made self.new) × (takes_made self.new ≤ takes_made self.old + 1) }
+        ensures counted { OnOk result (Rose (takes_made self.old) (takes_made self.new)) }
         ensures cause { OnErr result (Rose (faults_of self.old) (faults_of self.new)) }
 
         // It fails exactly where it is planned to, and takes as much as there is, up to its most.
-        ensures counted { CountsTake self.old self.new }
+        ensures made { CountsTake self.old self.new }
         ensures planned { IsErr result ↔ (planned_take self.old ≡ Some (takes_made self.new)) }
         ensures fault { OnErr result
             (faults_of self.new ≡ min (faults_of self.old + 1) 18446744073709551615) }

@@ -1,7 +1,6 @@
-use Rattle.std.proofs.Common.{◌≡◌, ◌⊎◌, inl, inr, ℕ, ◌+◌, ◌*◌, ◌≤◌, List, [], ◌∷◌, ◌++◌, length, sym, ◌∙◌, subst, arith}
-use Rattle.std.specs.Prelude.{IsTrue}
+use Rattle.std.proofs.Common.{◌≡◌, ◌⊎◌, inl, inr, ℕ, ◌+◌, ◌*◌, ◌≤◌, List, [], ◌∷◌, ◌++◌, length, sym, subst, arith}
 use Rattle.board.specs.Flash.{Flash}
-use Rattle.board.proofs.Runs.{links_too, sends_nothing_on}
+use Rattle.board.specs.Meaning.{TellsFlash}
 use Rattle.commit_gate.specs.Entries.{open_page, payload_pages}
 use Rattle.commit_gate.specs.Commits.{Stands}
 use Rattle.commit_gate.proofs.Images.{entry_stands}
@@ -17,7 +16,7 @@ area_fits first blocks (inl three) enough = omega arith
 area_fits first blocks (inr five) enough = omega arith
 
 -- the entry fits, and its pages are clean
-ready : (g : Over) (c : After-write_text g) → IsTrue (g.B.Board.means.device c.args.board.now).tells_flash
+ready : (g : Over) (c : After-write_text g) → TellsFlash g.B.Board.means c.args.board.now
     → Ready g.B.Board.means c.args.board.now (256 * c.args.area.first) c.args.at c.args.entry.now
 ready g c told =
     let old = c.args.board.now in
@@ -36,25 +35,22 @@ payload_left : {start : ℕ} {entries : List (List ℕ)} (g : Over) (c : After-w
     → Ready g.B.Board.means c.args.board.now (256 * c.args.area.first) c.args.at c.args.entry.now
     → Stands (g.B.Board.means.flash c.args.board.now) (256 * c.args.area.first) start entries c.args.at
     → Leaves g.B.Board.means c.args.board.now (256 * c.args.area.first) c.args.at c.args.entry.now start entries c.write_text.new.board
-payload_left g c has stands =
-    stages.ends_in_payload has stands c.write_text.new.board (c.write_text.ensures.leaves has.told)
+payload_left g c has stands = stages.ends_in_payload has c.write_text.ensures.touches stands
 
 barrier_left : {start : ℕ} {entries : List (List ℕ)} (g : Over) (c : After-barrier g)
     → Ready g.B.Board.means c.args.board.now (256 * c.args.area.first) c.args.at c.args.entry.now
     → Stands (g.B.Board.means.flash c.args.board.now) (256 * c.args.area.first) start entries c.args.at
     → Leaves g.B.Board.means c.args.board.now (256 * c.args.area.first) c.args.at c.args.entry.now start entries c.barrier.new.self
 barrier_left g c has stands =
-    stages.ends_in_barrier has stands c.write_text.new.board (c.write_text.ensures.leaves has.told)
-    c.barrier.new.self c.write_text.ensures.same (c.in_ok-write_text.ensures.ok has.told) c.barrier.ensures.leaves
+    stages.ends_in_barrier has c.write_text.ensures.touches stands (c.in_ok-write_text.ensures.ok has.told) c.barrier.ensures.touches
 
 gate_left : {start : ℕ} {entries : List (List ℕ)} (g : Over) (c : After-program g)
     → Ready g.B.Board.means c.args.board.now (256 * c.args.area.first) c.args.at c.args.entry.now
     → Stands (g.B.Board.means.flash c.args.board.now) (256 * c.args.area.first) start entries c.args.at
     → Leaves g.B.Board.means c.args.board.now (256 * c.args.area.first) c.args.at c.args.entry.now start entries c.program.new.board
 gate_left g c has stands =
-    stages.ends_in_gate has stands c.write_text.new.board (c.write_text.ensures.leaves has.told)
-    c.barrier.new.self c.write_text.ensures.same (c.in_ok-write_text.ensures.ok has.told) c.barrier.ensures.leaves
-    c.program.new.board c.barrier.ensures.same c.in_ok-barrier.ensures.ok c.program.ensures.leaves
+    stages.ends_in_gate has c.write_text.ensures.touches stands (c.in_ok-write_text.ensures.ok has.told) c.barrier.ensures.touches
+    c.in_ok-barrier.ensures.ok c.program.ensures.touches
 
 end_left : {start : ℕ} {entries : List (List ℕ)} (g : Over) (c : After-barrier-2 g)
     → Ready g.B.Board.means c.args.board.now (256 * c.args.area.first) c.args.at c.args.entry.now
@@ -62,10 +58,8 @@ end_left : {start : ℕ} {entries : List (List ℕ)} (g : Over) (c : After-barri
     → Leaves g.B.Board.means c.args.board.now (256 * c.args.area.first) c.args.at c.args.entry.now start entries c.barrier-2.new.self
 unfolding open_page
 end_left g c has stands =
-    stages.ends_in_last_barrier has stands c.write_text.new.board (c.write_text.ensures.leaves has.told)
-    c.barrier.new.self c.write_text.ensures.same (c.in_ok-write_text.ensures.ok has.told) c.barrier.ensures.leaves
-    c.program.new.board c.barrier.ensures.same c.in_ok-barrier.ensures.ok c.program.ensures.leaves
-    c.barrier-2.new.self c.program.ensures.same c.in_ok-program.ensures.ok c.barrier-2.ensures.leaves
+    stages.ends_in_last_barrier has c.write_text.ensures.touches stands (c.in_ok-write_text.ensures.ok has.told) c.barrier.ensures.touches
+    c.in_ok-barrier.ensures.ok c.program.ensures.touches c.in_ok-program.ensures.ok c.barrier-2.ensures.touches
 
 -- the images at each moment
 
@@ -121,14 +115,36 @@ returns-clause-in_turn g c told start entries stands =
     let at = goal.at.returns-clause-in_turn g c in
     (end_left g at.After-barrier-2 (ready g at.After-write_text told) stands).turns
 
+-- what was touched
+
+pub returns-in_err-barrier-clause-touches : goal.returns-in_err-barrier-clause-touches
+returns-in_err-barrier-clause-touches g c =
+    stages.touched_by_barrier g.B.Board.means (256 * c.args.area.first) c.args.at c.args.entry.now
+    c.write_text.ensures.touches c.barrier.ensures.touches
+
+pub returns-in_err-program-clause-touches : goal.returns-in_err-program-clause-touches
+returns-in_err-program-clause-touches g c =
+    stages.touched_by_gate g.B.Board.means (256 * c.args.area.first) c.args.at c.args.entry.now
+    c.write_text.ensures.touches c.barrier.ensures.touches c.program.ensures.touches
+
+pub returns-in_err-barrier-2-clause-touches : goal.returns-in_err-barrier-2-clause-touches
+returns-in_err-barrier-2-clause-touches g c =
+    stages.touched_by_all g.B.Board.means (256 * c.args.area.first) c.args.at c.args.entry.now
+    c.write_text.ensures.touches c.barrier.ensures.touches c.program.ensures.touches c.barrier-2.ensures.touches
+
+pub returns-clause-touches : goal.returns-clause-touches
+returns-clause-touches g c =
+    stages.touched_by_all g.B.Board.means (256 * c.args.area.first) c.args.at c.args.entry.now
+    c.write_text.ensures.touches c.barrier.ensures.touches c.program.ensures.touches c.barrier-2.ensures.touches
+
 -- the flash in the end
+
 pub returns-clause-flash : goal.returns-clause-flash
 unfolding open_page
 returns-clause-flash g c told =
     stages.entry_is (ready g (goal.at.returns-clause-flash g c).After-write_text told)
-    c.write_text.new.board c.barrier.new.self c.program.new.board c.barrier-2.new.self
-    c.write_text.ensures.same (c.in_ok-write_text.ensures.ok told) c.barrier.ensures.same c.in_ok-barrier.ensures.ok
-    c.program.ensures.same c.in_ok-program.ensures.ok c.in_ok-barrier-2.ensures.ok
+    c.write_text.ensures.touches (c.in_ok-write_text.ensures.ok told) c.barrier.ensures.touches c.in_ok-barrier.ensures.ok
+    c.program.ensures.touches c.in_ok-program.ensures.ok c.in_ok-barrier-2.ensures.ok
 
 pub returns-clause-stands : goal.returns-clause-stands
 returns-clause-stands g c told start entries stands =
@@ -139,16 +155,3 @@ returns-clause-stands g c told start entries stands =
     let has = ready g (goal.at.returns-clause-stands g c).After-write_text told in
     subst (λ (f : Flash). Stands f base start (entries ++ entry ∷ []) (c.args.at + 1 + payload_pages (length entry))) (sym (returns-clause-flash g c told))
     (entry_stands (means.device old).blocks (means.flash old) base c.args.at entry has.shortest has.longest has.room has.fits has.clean has.erased_blank start entries stands)
-
--- nothing is sent
-pub returns-clause-unsent : goal.returns-clause-unsent
-returns-clause-unsent g c told =
-    let means = g.B.Board.means in
-    let on = sends_nothing_on means in
-    let same_b = c.barrier.ensures.same ∙ c.write_text.ensures.same in
-    let same_d = c.program.ensures.same ∙ same_b in
-    on c.args.board.now c.program.new.board c.barrier-2.new.self
-    (on c.args.board.now c.barrier.new.self c.program.new.board
-    (on c.args.board.now c.write_text.new.board c.barrier.new.self (c.write_text.ensures.unsent told) (c.barrier.ensures.unsent (links_too c.write_text.ensures.same told)))
-    (c.program.ensures.unsent (links_too same_b told)))
-    (c.barrier-2.ensures.unsent (links_too same_d told))
