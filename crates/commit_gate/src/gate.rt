@@ -47,25 +47,25 @@ pub fn append<B: Board>(board: &mut B, area: Area, at: u32, entry: &[u8]) -> Res
     ensures stands { OnOk result (TellsFlash B.means board.old → (start : ℕ) (entries : List (List ℕ))
         → Stands (B.means.flash board.old) (256 * area.first) start entries at
         → Stands (B.means.flash board.new) (256 * area.first) start (entries ++ entry.now ∷ [])
-            (at + 1 + payload_pages (length entry.now))) }
+        (at + 1 + payload_pages (length entry.now))) }
     ensures clean { OnOk result (TellsFlash B.means board.old
         → IsCleanFrom (B.means.flash board.new) (256 * area.first)
-            (at + 1 + payload_pages (length entry.now))) }
+        (at + 1 + payload_pages (length entry.now))) }
 
     // A stop at any moment of the call leaves the entries from before it, or those and this one.
     ensures any_moment { TellsFlash B.means board.old → (start : ℕ) (entries : List (List ℕ))
         → Stands (B.means.flash board.old) (256 * area.first) start entries at
         → LeavesOnly B.means board.old board.new (IsBeforeOrAfter (B.means.device board.old).blocks
-            (B.means.flash board.old) (256 * area.first) start entries at entry.now) }
+        (B.means.flash board.old) (256 * area.first) start entries at entry.now) }
 
     // Up to some moment no image has the entry. Behind it each has all of the entry but its gate.
     ensures in_turn { TellsFlash B.means board.old → (start : ℕ) (entries : List (List ℕ))
         → Stands (B.means.flash board.old) (256 * area.first) start entries at
         → LeavesInTurn B.means board.old board.new
-            (IsBefore (B.means.device board.old).blocks (B.means.flash board.old)
-                (256 * area.first) start entries at entry.now)
-            (HasAllButGate (B.means.device board.old).blocks (B.means.flash board.old)
-                (256 * area.first) at entry.now) }
+        (IsBefore (B.means.device board.old).blocks (B.means.flash board.old)
+        (256 * area.first) start entries at entry.now)
+        (HasAllButGate (B.means.device board.old).blocks (B.means.flash board.old)
+        (256 * area.first) at entry.now) }
 
     // No other page is touched, also where a call failed: one that was clean still is.
     ensures touches { Touches B.means (entry_pages (256 * area.first) at entry.now)

@@ -32,12 +32,12 @@ returns-then-not-is_lawful-clause-next g c told =
     let area = area_of (256 * c.args.area.first) (means.flash c.args.board.now).content in
     let told_a = tells_too c.read_gate.ensures.reads.same told in
     let opened = at_open area c.args.at (gate_is c.args.at (area c.args.at) true (omega arith)
-        (sym c.if-not-branch.false ∙ c.in_ok-read_gate.ensures.shown told)) in
+    (sym c.if-not-branch.false ∙ c.in_ok-read_gate.ensures.shown told)) in
     let len = c.in_ok-length.length in
     let is_length : len ≡ length_in (area (c.args.at + 1)) =
     c.in_ok-length.ensures.length told_a
     ∙ ap (λ (f : Flash). length_in (area_of (256 * c.args.area.first) f.content (c.args.at + 1)))
-        (c.read_gate.ensures.reads.stays told).flash in
+    (c.read_gate.ensures.reads.stays told).flash in
     opened ∙ at_damage 5116 area (c.args.at + 1) len is_length (sym c.is_lawful.ensures ∙ c.if-not-is_lawful.true)
 
 pub returns-clause-next : goal.returns-clause-next
@@ -46,12 +46,12 @@ returns-clause-next g c told =
     let area = area_of (256 * c.args.area.first) (means.flash c.args.board.now).content in
     let told_a = tells_too c.read_gate.ensures.reads.same told in
     let opened = at_open area c.args.at (gate_is c.args.at (area c.args.at) true (omega arith)
-        (sym c.if-not-branch.false ∙ c.in_ok-read_gate.ensures.shown told)) in
+    (sym c.if-not-branch.false ∙ c.in_ok-read_gate.ensures.shown told)) in
     let len = c.in_ok-length.length in
     let is_length : len ≡ length_in (area (c.args.at + 1)) =
     c.in_ok-length.ensures.length told_a
     ∙ ap (λ (f : Flash). length_in (area_of (256 * c.args.area.first) f.content (c.args.at + 1)))
-        (c.read_gate.ensures.reads.stays told).flash in
+    (c.read_gate.ensures.reads.stays told).flash in
     let n = payload_pages len in
     let pages = c.payload_pages-pages in
     let is_next : c.args.at + 1 + payload_pages (length_in (area (c.args.at + 1))) ≡ c.args.at + 1 + pages.result =
@@ -90,9 +90,9 @@ returns-in_err-length-clause-reads g c =
     let means = g.B.Board.means in
     let old = c.args.board.now in
     let two = reads_on means old c.read_gate.new.board c.read_length.new.board
-        c.read_gate.ensures.reads c.read_length.ensures.reads in
+    c.read_gate.ensures.reads c.read_length.ensures.reads in
     let most = most_where_failed c.args.at c.from_residual-in_err-length.result
-        c.from_residual-in_err-length.ensures.0 in
+    c.from_residual-in_err-length.ensures.0 in
     reads_most means old c.read_length.new.board two (omega (arith, most))
 
 pub returns-then-not-is_lawful-clause-reads : goal.returns-then-not-is_lawful-clause-reads
@@ -106,11 +106,11 @@ returns-in_err-read_rest-clause-reads g c =
     let means = g.B.Board.means in
     let old = c.args.board.now in
     let two = reads_on means old c.read_gate.new.board c.read_length.new.board
-        c.read_gate.ensures.reads c.read_length.ensures.reads in
+    c.read_gate.ensures.reads c.read_length.ensures.reads in
     let fits = lawful_fits 5116 (c.args.at + 1) c.in_ok-length.length
-        (sym c.is_lawful.ensures ∙ c.if-not-is_lawful.false) in
+    (sym c.is_lawful.ensures ∙ c.if-not-is_lawful.false) in
     let most = most_where_failed c.args.at c.from_residual-in_err-read_rest.result
-        c.from_residual-in_err-read_rest.ensures.0 in
+    c.from_residual-in_err-read_rest.ensures.0 in
     reads_most means old c.read_rest.new.board
     (reads_on means old c.read_length.new.board c.read_rest.new.board two c.read_rest.ensures.reads)
     (omega (arith, fits.1, most))
@@ -120,9 +120,9 @@ returns-clause-reads g c =
     let means = g.B.Board.means in
     let old = c.args.board.now in
     let two = reads_on means old c.read_gate.new.board c.read_length.new.board
-        c.read_gate.ensures.reads c.read_length.ensures.reads in
+    c.read_gate.ensures.reads c.read_length.ensures.reads in
     let fits = lawful_fits 5116 (c.args.at + 1) c.in_ok-length.length
-        (sym c.is_lawful.ensures ∙ c.if-not-is_lawful.false) in
+    (sym c.is_lawful.ensures ∙ c.if-not-is_lawful.false) in
     reads_most means old c.read_rest.new.board
     (reads_on means old c.read_length.new.board c.read_rest.new.board two c.read_rest.ensures.reads)
     (omega (arith, fits.0))

@@ -31,7 +31,7 @@ loop-i-preserved g c =
     let buf = c.loop-i.buf in
     let page = c.read_page.new.into in
     let risen = rose_by_one (means.counts c.loop-i.board).reads (means.counts c.read_page.new.board).reads
-        c.in_ok-read_page.ensures.counted in
+    c.in_ok-read_page.ensures.counted in
     record {
       read = λ told. page_read (area_of base (means.flash old).content) c.args.first i buf page
           (omega arith) (omega arith) (so_far.read told)

@@ -50,7 +50,7 @@ loop-index-preserved g c =
     let more : index < payload_pages (length text) = omega arith in
     let within = page_within first index (payload_pages (length text)) page number more in
     let risen = rose_by_one (means.counts mid).programs (means.counts new).programs
-        c.in_ok-program.ensures.counted in
+    c.in_ok-program.ensures.counted in
     record {
       flash = λ told. page_added first index text c.fill_page.new.page
           (means.flash old) (means.flash mid) (means.flash new) c.fill_page.ensures (so_far.flash told)
