@@ -3,11 +3,13 @@ ghost use Rattle.std.specs.Prelude.{◌≡◌, ◌+◌, ◌*◌, ◌<◌, ◌≤
 ghost use Rattle.octet_fields.specs.Fields.{Writes};
 ghost use Rattle.space_packet.specs.Packet.{IsPacket};
 ghost use Rattle.control_defs.specs.PatternOctets.{pattern_octets};
+ghost use Rattle.control_defs.proofs.PatternOctets.{length-pattern_octets};
 ghost use Rattle.pst_model.specs.Reports.{forward_report, listed_octets, report_packet, types_report};
 
 use crate::head::{Head, put_head};
+use crate::rows::{Row, put_rows, write_listed};
 use control_defs::{FORWARDING, Pattern, STORAGE, put_pattern};
-use octet_fields::{put_u8, put_u16};
+use octet_fields::put_u16;
 use pus_header::TM_HEADERS;
 
 /// The message subtype of the report of what is forwarded.
@@ -22,17 +24,20 @@ const PATTERN: u32 = 5;
 /// The octets of a store's identifier.
 const STORE: u32 = 2;
 
-// Writes patterns, behind one octet with their number.
-fn put_patterns(patterns: &[Pattern], out: &mut [u8], at: usize)
-    requires few { length patterns.now ≤ 64 }
-    requires room { at + 1 + 5 * length patterns.now ≤ length out.old }
-    ensures { Writes out.old out.new at (listed_octets pattern_octets patterns.now) }
-{
-    put_u8(out, at, patterns.len() as u8);
-    let mut place = at + 1;
-    for pattern in patterns {
-        place = put_pattern(*pattern, out, place);
+impl Row for Pattern {
+    ghost octets = { pattern_octets };
+
+    ghost fits = { λ pattern. Unit {0} };
+
+    ghost SIZE = { 5 };
+
+    const SIZE: u32 = PATTERN;
+
+    fn put(self, out: &mut [u8], at: usize) -> usize {
+        put_pattern(self, out, at)
     }
+
+    ghost sized = { length-pattern_octets };
 }
 
 /// Writes the report of the patterns of packets that are forwarded, at most 64, at the front of `out`,
@@ -51,10 +56,7 @@ pub fn write_forward(head: Head, patterns: &[Pattern], out: &mut [u8]) -> u32
     ensures short { result ≤ 1024 }
     ensures packet { IsPacket (report_packet head.count head.moment (forward_report patterns.now)) }
 {
-    let content = 1 + PATTERN * patterns.len() as u32;
-    put_head(head, FORWARDING, FORWARD_REPORT, content, out);
-    put_patterns(patterns, out, TM_HEADERS);
-    TM_HEADERS as u32 + content
+    write_listed(head, FORWARDING, FORWARD_REPORT, patterns, out)
 }
 
 /// Writes the report of the patterns of packets that a store takes, at most 64, at the front of `out`,
@@ -75,6 +77,6 @@ pub fn write_types(head: Head, store: u16, patterns: &[Pattern], out: &mut [u8])
     let content = STORE + 1 + PATTERN * patterns.len() as u32;
     put_head(head, STORAGE, TYPES_REPORT, content, out);
     put_u16(out, TM_HEADERS, store);
-    put_patterns(patterns, out, TM_HEADERS + STORE as usize);
+    put_rows(patterns, out, TM_HEADERS + STORE as usize);
     TM_HEADERS as u32 + content
 }
