@@ -1,5 +1,5 @@
-// A board whose link breaks within a send. It tells what it sent, and keeps how much each send sent. It
-// has no flash that works: each call of it fails.
+// A board whose link breaks within a send. It tells what it sent, and keeps how much each send
+// sent. It has no flash that works: each call of it fails.
 ghost use Rattle.std.specs.Prelude.{◌≡◌, ◌≤◌, ◌<◌, ◌++◌, ◌∷◌, [], if◌then◌else◌, length, sum, IsTrue, OnOk, OnErr};
 ghost use Rattle.board.specs.Counts.{Rose};
 ghost use Rattle.trials.specs.Half.{half_of};
@@ -88,8 +88,8 @@ impl HalfBoard {
         self.starved
     }
 
-    /// From now on the send with that number sends half of its octets and fails, counted from 1 since
-    /// the board was made, and no other.
+    /// From now on the send with that number sends half of its octets and fails, counted from 1
+    /// since the board was made, and no other.
     pub fn plan(&mut self, number: u64)
         ensures planned { planned_send self.new ≡ Some number }
         ensures same { SameButPlan self.old self.new }
@@ -144,14 +144,16 @@ impl Board for HalfBoard {
 
     fn send(&mut self, bytes: &[u8]) -> Result<(), Failed>
         ensures ok { OnOk result (IsTrue (device_of self.old).tells_link
-            → sent_at self.new (moment_of self.new) ≡ sent_at self.old (moment_of self.old) ++ bytes.now) }
+            → sent_at self.new (moment_of self.new) ≡ sent_at self.old (moment_of self.old)
+            ++ bytes.now) }
         ensures any_moment { IsTrue (device_of self.old).tells_link
             → SendsOnly half_means self.old self.new
             (GainsFront (sent_at self.old (moment_of self.old)) bytes.now) }
         ensures later { IsTrue (device_of self.old).tells_link
             → (sent_at self.new (moment_of self.new) ≡ sent_at self.old (moment_of self.old))
             ⊎ (moment_of self.old < moment_of self.new) }
-        ensures flash { IsTrue (device_of self.old).tells_flash → flash_of self.new ≡ flash_of self.old }
+        ensures flash { IsTrue (device_of self.old).tells_flash → flash_of self.new
+            ≡ flash_of self.old }
         ensures seen { IsTrue (device_of self.old).tells_flash
             → image_at self.old (moment_of self.old) (flash_of self.old).content
             → image_at self.new (moment_of self.new) (flash_of self.new).content }
@@ -160,11 +162,13 @@ impl Board for HalfBoard {
             (IsImage (device_of self.old).blocks (flash_of self.old)) }
         ensures same { device_of self.new ≡ device_of self.old }
         ensures work { Sends (counts_of self.old) (counts_of self.new) }
-        ensures no_fault { OnOk result ((counts_of self.new).link_faults ≡ (counts_of self.old).link_faults) }
+        ensures no_fault { OnOk result ((counts_of self.new).link_faults
+            ≡ (counts_of self.old).link_faults) }
         ensures cause { OnErr result
             (Rose (counts_of self.old).link_faults (counts_of self.new).link_faults) }
 
-        // It fails where it is planned to, behind half of the octets, and else only for want of memory.
+        // It fails where it is planned to, behind half of the octets, and else only for want of
+        // memory.
         ensures counted { CountsSend self.old self.new }
         ensures done { OnOk result (SendSucceeds bytes.now self.old self.new) }
         ensures failed { OnErr result (SendFails bytes.now self.old self.new) }
