@@ -33,8 +33,11 @@ counts_of board = record {
   reads = 0;
   programs = 0;
   erases = 0;
+<<<<<<< HEAD
   barriers = 0;
   sends = board.made;
+=======
+>>>>>>> 89d8d47eecad0cadfecd84845f5ca073a850b0db
 }
 
 -- all of it as one value
@@ -65,7 +68,17 @@ pub record IsNewBoard (blocks : ℕ) (board : HalfBoard) : Type 0 where
   pub device : device_of board ≡ record { blocks = blocks; tells_flash = false; tells_link = true }
   pub moment : moment_of board ≡ 0
   pub sent : sent_at board (moment_of board) ≡ []
+<<<<<<< HEAD
   pub counts : counts_of board ≡ record { flash_faults = 0; link_faults = 0; reads = 0; programs = 0; erases = 0; barriers = 0; sends = 0 }
+=======
+  pub counts : counts_of board ≡ record {
+    flash_faults = 0;
+    link_faults = 0;
+    reads = 0;
+    programs = 0;
+    erases = 0;
+  }
+>>>>>>> 89d8d47eecad0cadfecd84845f5ca073a850b0db
   pub made : sends_made board ≡ 0
   pub planned : planned_send board ≡ None
   pub starved : is_starved board ≡ false
@@ -102,7 +115,8 @@ pub record Starves (old new : HalfBoard) : Type 0 where
 
 -- A send fails because it was planned to, and then sends half, or because there is no memory.
 pub record SendFails (bytes : List ℕ) (old new : HalfBoard) : Type 0 where
-  pub faults : (counts_of new).link_faults ≡ min ((counts_of old).link_faults + 1) 18446744073709551615
+  pub faults : (counts_of new).link_faults
+      ≡ min ((counts_of old).link_faults + 1) 18446744073709551615
   pub reason : (IsPlannedSend old new × SendsThese (half_of bytes) old new) ⊎ Starves old new
 
 -- A send that succeeds was not planned to fail, and sends all.
