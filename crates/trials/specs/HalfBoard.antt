@@ -33,11 +33,8 @@ counts_of board = record {
   reads = 0;
   programs = 0;
   erases = 0;
-<<<<<<< HEAD
   barriers = 0;
   sends = board.made;
-=======
->>>>>>> 89d8d47eecad0cadfecd84845f5ca073a850b0db
 }
 
 -- all of it as one value
@@ -68,17 +65,7 @@ pub record IsNewBoard (blocks : ℕ) (board : HalfBoard) : Type 0 where
   pub device : device_of board ≡ record { blocks = blocks; tells_flash = false; tells_link = true }
   pub moment : moment_of board ≡ 0
   pub sent : sent_at board (moment_of board) ≡ []
-<<<<<<< HEAD
   pub counts : counts_of board ≡ record { flash_faults = 0; link_faults = 0; reads = 0; programs = 0; erases = 0; barriers = 0; sends = 0 }
-=======
-  pub counts : counts_of board ≡ record {
-    flash_faults = 0;
-    link_faults = 0;
-    reads = 0;
-    programs = 0;
-    erases = 0;
-  }
->>>>>>> 89d8d47eecad0cadfecd84845f5ca073a850b0db
   pub made : sends_made board ≡ 0
   pub planned : planned_send board ≡ None
   pub starved : is_starved board ≡ false
