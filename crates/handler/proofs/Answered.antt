@@ -1,11 +1,7 @@
 -- What a request is answered with.
-use Rattle.std.proofs.Common.{◌≡◌, ℕ, List, ◌++◌, None, Some, sym, ◌∙◌, ap}
-use Rattle.control_defs.specs.declared.instructions.Instruction.{Instruction}
-use Rattle.pus_header.specs.Commands.{acks_of, identifier_of, service_of, subtype_of}
-use Rattle.pst_model.specs.declared.verdicts.Verdict.{Verdict}
-use Rattle.pst_model.specs.Answers.{answer, answer_by, answer_carried, carry_out, completed, data_in, on_request, refusal_of, replied, verdicts_before}
-use Rattle.pst_model.specs.Contents.{content_report}
-use Rattle.pst_model.specs.Requests.{items_in}
+use Rattle.std.proofs.Common.{◌≡◌, ℕ, List, sym, ◌∙◌, ap}
+use Rattle.pus_header.specs.Commands.{identifier_of}
+use Rattle.pst_model.specs.Answers.{answer, replied}
 use Rattle.pst_model.specs.Table.{Table}
 use Rattle.handler.specs.Asked.{reports_in}
 use Rattle.handler.specs.declared.carrying_out.Outcome.{Outcome}
