@@ -82,13 +82,14 @@ same_on these those old mid new within first second = record {
 
 -- what a stop leaves of later pages, seen from before
 pub image_since : (blocks : ℕ) (these those : ℕ → Bool) (old mid : Flash) (image : ℕ → List ℕ) → Within those these
-    → KeptElsewhere these old mid → IsImage blocks (loosened those mid) image → IsImage blocks (loosened these old) image
-image_since blocks these those old mid image within kept is = record {
+    → ((p : ℕ) → these p ≡ false → mid.content p ≡ old.content p)
+    → ((p : ℕ) → these p ≡ false → old.loose p ≡ false → mid.loose p ≡ false)
+    → IsImage blocks (loosened those mid) image → IsImage blocks (loosened these old) image
+image_since blocks these those old mid image within same firm is = record {
   pages = is.pages;
   firm_pages = λ p inside loose.
       let out = outside (these p) (old.loose p) loose in
-      is.firm_pages p inside (elsewhere (those p) true (mid.loose p) (within p out.0) ∙ kept.firm p out.0 out.1)
-      ∙ kept.content p out.0;
+      is.firm_pages p inside (elsewhere (those p) true (mid.loose p) (within p out.0) ∙ firm p out.0 out.1) ∙ same p out.0;
 }
 
 module _ {B : Type 0} (means : BoardMeaning B) where
@@ -115,7 +116,7 @@ module _ {B : Type 0} (means : BoardMeaning B) where
         (first.others told) (second.others (tells_too first.same told));
     leaves = λ told. goes_on means old mid new _ _ (first.leaves told) (second.leaves (tells_too first.same told))
         (λ image is. image_since (means.device old).blocks these those (means.flash old) (means.flash mid) image within
-        (first.others told) (subst (λ (d : Device). IsImage d.blocks (loosened those (means.flash mid)) image) first.same is));
+        (first.others told).content (first.others told).firm (subst (λ (d : Device). IsImage d.blocks (loosened those (means.flash mid)) image) first.same is));
     unsent = λ told. runs.sends_nothing_on means old mid new (first.unsent told)
         (second.unsent (runs.links_too first.same told));
     same = second.same ∙ first.same;

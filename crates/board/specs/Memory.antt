@@ -98,6 +98,7 @@ pub record SameButPlans (old new : MemBoard) : Type 0 where
   pub flash : flash_of new ≡ flash_of old
   pub moment : moment_of new ≡ moment_of old
   pub past : (t : ℕ) → flash_at new t ≡ flash_at old t
+  pub firm_past : (t : ℕ) → firm_at new t ≡ firm_at old t
   pub sent : (t : ℕ) → sent_at new t ≡ sent_at old t
   pub counts : counts_of new ≡ counts_of old
   pub made : calls_made new ≡ calls_made old
@@ -107,12 +108,13 @@ pub record SameButPlans (old new : MemBoard) : Type 0 where
 abbrev pub IsPlanned : CallKind → MemBoard → MemBoard → Type 0
 IsPlanned kind old new = Contains (at_kind kind (planned_calls old)) (at_kind kind (calls_made new))
 
--- A call of this kind is counted, and no other. No plan changes, nor what the flash was before, and a board that
--- has found no memory says so from then on.
+-- A call of this kind is counted, and no other. No plan changes, nor what the flash was before and what its pages
+-- held when they were last firm, and a board that has found no memory says so from then on.
 pub record MakesCall (kind : CallKind) (old new : MemBoard) : Type 0 where
   pub made : calls_made new ≡ changed kind one_more (calls_made old)
   pub planned : planned_calls new ≡ planned_calls old
   pub past : (t : ℕ) → t ≤ moment_of old → flash_at new t ≡ flash_at old t
+  pub firm_past : (t : ℕ) → t ≤ moment_of old → firm_at new t ≡ firm_at old t
   pub starved : IsTrue (is_starved old) → IsTrue (is_starved new)
 
 -- A call that was not planned to fail, and did so many steps.

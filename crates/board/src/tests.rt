@@ -1,11 +1,14 @@
 // What no clause says: that the calls succeed where there is memory, and what comes in their place
 // where a failure was planned.
+ghost use Rattle.std.specs.Prelude.{◌≤◌};
+
 use crate::board::{Board, Failed};
 use crate::calls::CallKind;
 use crate::memory::MemBoard;
 use crate::memory_source::MemSource;
-use crate::script::{Act, perform};
+use crate::script::{Act, clear, perform};
 use crate::source::Source;
+use crate::stop::Torn;
 use std::alloc::Global;
 use std::test::Fail;
 
@@ -143,5 +146,69 @@ fn a_take_that_was_planned_to_fail_takes_nothing(rt: HostRuntime) -> Result<(), 
     assert_eq!(rt; source.take(&mut buffer), Err(Failed));
     assert_eq!(rt; source.take(&mut buffer), Ok(1));
     assert_eq!(rt; buffer[0], b'3');
+    Ok(())
+}
+
+// A device of so many blocks, made twice, the second time of an image of sevens, and once more by a stop.
+fn last_page_of(alloc: Global, blocks: u32) -> Result<[u8; 256], Fail>
+    requires least { 16 ≤ blocks }
+    requires most { blocks ≤ 512 }
+{
+    let blank = MemBoard::new(alloc, blocks)?;
+    let image = vec![in alloc; 7u8; 65_536 * blocks as usize]?;
+    let full = MemBoard::from_image(alloc, image)?;
+    let stopped = full.after_stop(alloc, blank.moments(), Torn::Undone)?;
+    let mut octets = [0; 256];
+    octets.copy_from_slice(stopped.page(blocks - 1, 255));
+    Ok(octets)
+}
+
+// Erases a block and makes that firm, so many times, and answers whether each call succeeded.
+fn erase_often(board: &mut MemBoard, times: u32) -> bool {
+    for _ in 0..times {
+        if board.erase(3).is_err() || board.barrier().is_err() {
+            return false;
+        }
+    }
+    true
+}
+
+// Programs a page with what it holds when it is erased.
+fn program_blank(board: &mut MemBoard) -> bool {
+    clear(board) && board.program(0, 0, &[255; 256]).is_ok()
+}
+
+#[test]
+fn there_is_memory_for_each_size_of_device(rt: HostRuntime) -> Result<(), Fail> {
+    assert_eq!(rt;
+        last_page_of(rt.alloc(), 17)?.as_slice(),
+        [7; 256].as_slice()
+    );
+    assert_eq!(rt;
+        last_page_of(rt.alloc(), 512)?.as_slice(),
+        [7; 256].as_slice()
+    );
+    Ok(())
+}
+
+#[test]
+fn there_is_memory_for_each_call(rt: HostRuntime) -> Result<(), Fail> {
+    let mut board = MemBoard::new(rt.alloc(), 16)?;
+    board.plan(CallKind::Send, u64::MAX)?;
+    assert!(rt; erase_often(&mut board, 1000));
+    assert!(rt; program_blank(&mut board));
+    assert_eq!(rt; board.send(&[b'0'; 8195]), Ok(()));
+    assert_eq!(rt; board.moments(), 2004);
+    assert!(rt; !board.starved());
+    Ok(())
+}
+
+#[test]
+fn a_call_behind_a_starved_one_succeeds(rt: HostRuntime) -> Result<(), Fail> {
+    let mut board = MemBoard::new(rt.alloc(), 16)?;
+    board.starved = true;
+    assert!(rt; program_blank(&mut board));
+    assert_eq!(rt; board.send(b"x"), Ok(()));
+    assert!(rt; board.starved());
     Ok(())
 }

@@ -1,5 +1,6 @@
-// What no clause says: that an entry is read back octet by octet from all that stops leave, and that the
-// calls succeed where there is memory.
+// What no clause says: that an entry is read back octet by octet from all that stops leave, that
+// the calls succeed where there is memory, and that the rest of a buffer that is lent to an answer
+// is left.
 ghost use Rattle.std.specs.Prelude.{◌≤◌};
 
 use crate::area::Area;
@@ -201,5 +202,47 @@ fn an_open_gate_in_the_last_page_ends_the_area(rt: HostRuntime) -> Result<(), Fa
     let mut buf = [0; 5120];
     assert_eq!(rt; next_entry(&mut board, AREA, 511, &mut buf)?, Next::End);
     assert_eq!(rt; next_entry(&mut board, AREA, 512, &mut buf)?, Next::End);
+    Ok(())
+}
+
+// How many reads, programs and barriers there were.
+fn work(board: &MemBoard) -> (u64, u64, u64) {
+    (
+        board.count(CallKind::Read),
+        board.count(CallKind::Program),
+        board.count(CallKind::Barrier),
+    )
+}
+
+#[test]
+fn an_entry_takes_two_barriers_and_a_program_a_page(rt: HostRuntime) -> Result<(), Fail> {
+    let entry = [4; 5116];
+    let mut board = MemBoard::new(rt.alloc(), 16)?;
+    let at = append(&mut board, AREA, 1, &entry[..252])?;
+    assert_eq!(rt; work(&board), (0, 2, 2));
+    let at = append(&mut board, AREA, at, &entry[..253])?;
+    assert_eq!(rt; work(&board), (0, 5, 4));
+    append(&mut board, AREA, at, &entry)?;
+    assert_eq!(rt; work(&board), (0, 26, 6));
+    Ok(())
+}
+
+#[test]
+fn no_page_is_read_for_nothing(rt: HostRuntime) -> Result<(), Fail> {
+    let entry = [6; 253];
+    let mut buf = [7; 5376];
+    let mut board = MemBoard::new(rt.alloc(), 16)?;
+    append(&mut board, AREA, 1, &entry)?;
+    assert!(rt; next_entry(&mut board, AREA, 512, &mut buf)? == Next::End);
+    assert_eq!(rt; work(&board).0, 0);
+    assert!(rt; next_entry(&mut board, AREA, 4, &mut buf)? == Next::End);
+    assert_eq!(rt; work(&board).0, 1);
+    assert!(rt; next_entry(&mut board, AREA, 1, &mut buf)? != Next::End);
+    assert_eq!(rt; work(&board).0, 4);
+    assert!(rt; buf[512..] == [7; 4864]);
+    let mut board = open_board(rt.alloc(), 1, 0)?;
+    assert!(rt; next_entry(&mut board, AREA, 1, &mut buf)? == Next::Damaged { length: 0 });
+    assert_eq!(rt; work(&board).0, 2);
+    assert!(rt; buf[512..] == [7; 4864]);
     Ok(())
 }

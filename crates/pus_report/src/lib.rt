@@ -5,6 +5,7 @@ mod configuration;
 mod events;
 mod head;
 mod patterns;
+mod rows;
 mod status;
 mod summary;
 mod verdicts;

@@ -5,6 +5,7 @@ ghost use Rattle.session_text.specs.Lending.{reader_of};
 use super::*;
 use board::{Failed, Source};
 use space_packet::PacketFault;
+use std::alloc::Global;
 use std::fmt::InlineText;
 use std::test::Fail;
 
@@ -199,4 +200,32 @@ fn faults_have_texts(rt: HostRuntime) {
     let long = PacketFault::Long { have: 21, need: 20 };
     let said: InlineText<64> = InlineText::of(LineFault::Packet(long));
     assert_eq!(rt; said.as_str(), "packet long: have 21 need 20");
+}
+
+// Reads a text of so many grants, and answers how many came and how often the source was asked.
+fn read_grants(alloc: Global, count: usize) -> Result<(usize, u64), Fail> {
+    let text = b"G 000000000011\n".repeat(alloc, count)?;
+    let mut source = Pieces {
+        text: &text,
+        most: usize::MAX,
+        takes: 0,
+    };
+    let mut lines = Lines::new(alloc, i64::MAX as u64)?;
+    let mut grants = 0;
+    for _ in 0..count {
+        if !lines.is_live() || !matches!(lines.next_line(&mut source), Ok(Some(_))) {
+            break;
+        }
+        grants += 1;
+    }
+    Ok((grants, source.takes))
+}
+
+#[test]
+fn a_reader_asks_with_the_room_that_it_has(rt: HostRuntime) -> Result<(), Fail> {
+    // 300,000 octets, of which each take has room for 131,072 at least but one that fills the buffer
+    let (grants, takes) = read_grants(rt.alloc(), 20_000)?;
+    assert_eq!(rt; grants, 20_000);
+    assert!(rt; takes <= 4, "{takes} takes");
+    Ok(())
 }

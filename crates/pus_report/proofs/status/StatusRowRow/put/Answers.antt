@@ -1,6 +1,6 @@
 use Rattle.std.proofs.Common.{arith}
 use Rattle.octet_fields.proofs.Splices.{Writes-then}
-use Rattle.pus_report.proofs.status.put_status.Goals as goal
+use Rattle.pus_report.proofs.status.StatusRowRow.put.Goals as goal
 
 pub returns-clause-written : goal.returns-clause-written
 returns-clause-written c =
