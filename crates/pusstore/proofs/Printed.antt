@@ -47,9 +47,11 @@ prints_none text known = record {
   printed = gains_nothing known;
 }
 
-module _ (text left : List ℕ) (before after : Option (List ℕ)) (blocks : ℕ) (board board' : MemBoard) (made : IsNewBoard blocks (λ p. blank) true board) (tells : Bool) (told : IsTrue tells) where
+module _ (text left : List ℕ) (before after : Option (List ℕ)) (blocks : ℕ) (board board' : MemBoard)
+    (made : IsNewBoard blocks (λ p. blank) true board) (tells : Bool) (told : IsTrue tells) where
   -- what a new device was sent
-  sent_lines : (outputs : List Output) → SendsLines memory_means board board' outputs → sent_at board' (moment_of board') ≡ lines_of outputs
+  sent_lines : (outputs : List Output) → SendsLines memory_means board board' outputs
+      → sent_at board' (moment_of board') ≡ lines_of outputs
   sent_lines outputs lines = lines.gained refl ∙ ap (λ (old : List ℕ). old ++ lines_of outputs) made.sent
 
   sent_front : SendsOnly memory_means board board' (MayBeSent tells (read_of text left) (sent_at board (moment_of board)))

@@ -11,8 +11,8 @@ use station::{Ending, station};
 use std::alloc::Global;
 use std::io::Write;
 
-/// A session with these words over the text that is read, on a new device in memory of 16 to 512 blocks. What it
-/// sent is written when it has ended.
+/// A session with these words over the text that is read, on a new device in memory of 16 to 512
+/// blocks. What it sent is written when it has ended.
 pub fn session<R: Reader + Drop, W: Write>(
     alloc: Global,
     words: &Vec<String>,
@@ -23,7 +23,8 @@ pub fn session<R: Reader + Drop, W: Write>(
     requires least { 16 ≤ blocks }
     requires most { blocks ≤ 512 }
     ensures words { AreFresh (texts_of words.now) → result ≢ Ending.BadWords }
-    ensures prints { IsTrue R.tells → EndsPrinting (octets_left (R.remaining input)) (W.contents output.old) (W.contents output.new) result }
+    ensures prints { IsTrue R.tells → EndsPrinting (octets_left (R.remaining input))
+        (W.contents output.old) (W.contents output.new) result }
 {
     let Ok(mut board) = MemBoard::new(alloc, blocks) else {
         return Ending::NoMemory;

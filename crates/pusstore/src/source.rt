@@ -34,8 +34,10 @@ impl<R: Reader + Drop> StdSource<R> {
 // Reads what there is, again where a signal came before any octet did. None says that it failed.
 fn read_some<R: Read>(input: &mut R, into: &mut [u8]) -> Option<usize>
     ensures count { IfSome result (λ count. count ≤ length into.old) }
-    ensures read { IfSome result (λ count. Consumes (R.remaining input.old) (R.remaining input.new) (take count into.new)) }
-    ensures end { IfSome result (λ count. count ≡ 0 → 0 < length into.old → IsAtEnd (R.remaining input.new)) }
+    ensures read { IfSome result (λ count.
+        Consumes (R.remaining input.old) (R.remaining input.new) (take count into.new)) }
+    ensures end { IfSome result (λ count. count ≡ 0 → 0 < length into.old
+        → IsAtEnd (R.remaining input.new)) }
     ensures kept { IfNone result (Keeps (R.remaining input.old) (R.remaining input.new)) }
 {
     for _ in 0..u64::MAX {
@@ -49,14 +51,22 @@ fn read_some<R: Read>(input: &mut R, into: &mut [u8]) -> Option<usize>
 }
 
 impl<R: Reader + Drop> Source for StdSource<R> {
-    ghost means = { record { tells = λ source. R.tells; left = λ source. octets_left (R.remaining source.input); faults = λ source. source.faults; takes = λ source. source.takes } };
+    ghost means = { record {
+      tells = λ source. R.tells;
+      left = λ source. octets_left (R.remaining source.input);
+      faults = λ source. source.faults;
+      takes = λ source. source.takes;
+    } };
 
     fn take(&mut self, into: &mut [u8]) -> Result<usize, Failed>
         requires { 0 < length into.old }
         ensures count { IfOk result (λ count. count ≤ length into.old) }
-        ensures moved { IfOk result (λ count. IsTrue R.tells → octets_left (R.remaining self.old.input) ≡ take count into.new ++ octets_left (R.remaining self.new.input)) }
-        ensures end { IfOk result (λ count. IsTrue R.tells → (count ≡ 0) ↔ (octets_left (R.remaining self.old.input) ≡ [])) }
-        ensures failed { OnErr result (IsTrue R.tells → octets_left (R.remaining self.new.input) ≡ octets_left (R.remaining self.old.input)) }
+        ensures moved { IfOk result (λ count. IsTrue R.tells → octets_left (R.remaining self.old.input)
+            ≡ take count into.new ++ octets_left (R.remaining self.new.input)) }
+        ensures end { IfOk result (λ count. IsTrue R.tells
+            → (count ≡ 0) ↔ (octets_left (R.remaining self.old.input) ≡ [])) }
+        ensures failed { OnErr result (IsTrue R.tells
+            → octets_left (R.remaining self.new.input) ≡ octets_left (R.remaining self.old.input)) }
         ensures faults { self.old.faults ≤ self.new.faults }
         ensures takes { (self.old.takes ≤ self.new.takes) × (self.new.takes ≤ self.old.takes + 1) }
         ensures counted { OnOk result (Rose self.old.takes self.new.takes) }
