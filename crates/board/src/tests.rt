@@ -197,7 +197,8 @@ fn there_is_memory_for_each_call(rt: HostRuntime) -> Result<(), Fail> {
     board.plan(CallKind::Send, u64::MAX)?;
     assert!(rt; erase_often(&mut board, 1000));
     assert!(rt; program_blank(&mut board));
-    assert_eq!(rt; board.send(&[b'0'; 8195]), Ok(()));
+    let line = vec![in rt.alloc(); b'0'; 8195]?;
+    assert_eq!(rt; board.send(&line), Ok(()));
     assert_eq!(rt; board.moments(), 2004);
     assert!(rt; !board.starved());
     Ok(())

@@ -1,14 +1,17 @@
 -- What a stop leaves of an area while an entry is written.
-use Rattle.std.proofs.Common.{◌≡◌, ◌≢◌, inl, inr, ℕ, ◌+◌, ◌-◌, ◌*◌, ◌<◌, ◌≤◌, Bool, true, false, List, []}
+use Rattle.std.proofs.Common.{◌≡◌, ◌≢◌, inl, inr, ℕ, ◌+◌, ◌-◌, ◌*◌, ◌<◌, ◌≤◌, Bool, true, false}
+use Rattle.std.proofs.Common.{List, []}
 use Rattle.std.proofs.Common.{◌∷◌, ◌++◌, length, refl, sym, ◌∙◌, ap, arith}
 use Rattle.std.proofs.lemmas.Bool.Decides.{nat_tests}
 use Rattle.board.specs.Flash.{Flash, IsClean, IsImage, blank, firm, loosened, only_page, pages_from}
 use Rattle.board.proofs.Pages.{above_pages, below_pages, elsewhere, image_of_more, in_pages, inside}
 use Rattle.board.proofs.Pages.{is_only, not_only, outside}
-use Rattle.commit_gate.specs.Entries.{End, Entry, HasEntries, area_of, entry_at, open_page, payload_pages}
+use Rattle.commit_gate.specs.Entries.{End, Entry, HasEntries, area_of, entry_at, open_page}
+use Rattle.commit_gate.specs.Entries.{payload_pages}
 use Rattle.commit_gate.specs.Commits.{HasAllButGate, IsBefore, IsBeforeOrAfter, Stands, entry_pages}
 use Rattle.commit_gate.specs.Commits.{payload_at, payload_page, with_entry, with_payload}
-use Rattle.commit_gate.proofs.AreaEntries.{at_le, at_open, blank≢open, cases_same, end_same, ends, ends_here}
+use Rattle.commit_gate.proofs.AreaEntries.{at_le, at_open, blank≢open, cases_same, end_same, ends}
+use Rattle.commit_gate.proofs.AreaEntries.{ends_here}
 use Rattle.commit_gate.proofs.AreaEntries.{entries_kept, entries_pushed, open_gate}
 use Rattle.commit_gate.proofs.AreaPages.{area_page, area_same}
 use Rattle.commit_gate.proofs.Spelled.{text_spelled}
@@ -16,7 +19,8 @@ use Rattle.commit_gate.proofs.Spelled.{text_spelled}
 -- the entries of each image, where they stand
 pub image_stands : (blocks : ℕ) (flash : Flash) (base start : ℕ) (entries : List (List ℕ)) (end : ℕ)
     → base + 512 ≤ 256 * blocks → Stands flash base start entries end
-    → (image : ℕ → List ℕ) → IsImage blocks flash image → HasEntries (area_of base image) start entries end
+    → (image : ℕ → List ℕ) → IsImage blocks flash image
+    → HasEntries (area_of base image) start entries end
 image_stands blocks flash base start entries end fits stands image is =
     let old = area_of base flash.content in
     let new = area_of base image in
@@ -65,7 +69,8 @@ module _ (blocks : ℕ) (flash : Flash) (base at : ℕ) (entry : List ℕ)
 
   -- other pages hold what they held
   payload_elsewhere : (p : ℕ) → payload p ≡ false → filled p ≡ flash.content p
-  payload_elsewhere p out = elsewhere (payload p) (payload_at (base + (at + 1)) entry p) (flash.content p) out
+  payload_elsewhere p out = elsewhere (payload p) (payload_at (base + (at + 1)) entry p)
+      (flash.content p) out
 
   payload_here : (i : ℕ) → i < payload_pages (length entry)
       → filled (base + (at + 1 + i)) ≡ payload_page entry i
@@ -85,12 +90,15 @@ module _ (blocks : ℕ) (flash : Flash) (base at : ℕ) (entry : List ℕ)
     pub payload_before : (image : ℕ → List ℕ) → IsImage blocks (loosened payload flash) image
         → IsBefore blocks flash base start entries at entry image
     payload_before image is = record {
-      has = entries_kept (area_of base flash.content) (area_of base image) start entries at stands.has
-          (λ q from lt. kept q (omega arith) (λ within. stands.firm_pages q from (omega arith) within))
+      has = entries_kept (area_of base flash.content)
+          (area_of base image) start entries at stands.has
+          (λ q from lt. kept q (omega arith) (λ within. stands.firm_pages q from
+          (omega arith) within))
           (end_same (area_of base flash.content) (area_of base image) at
           (ends (area_of base flash.content) start entries at stands.has)
           (kept at (omega arith) (λ within. (clean at (omega arith) within).1)));
-      elsewhere = image_of_more blocks payload (entry_pages base at entry) flash image not_payload is;
+      elsewhere = image_of_more blocks payload (entry_pages base at entry) flash image not_payload
+          is;
     }
       where
         kept : (q : ℕ) → q ≤ at → (q < 512 → flash.loose (base + q) ≡ false)
@@ -99,17 +107,20 @@ module _ (blocks : ℕ) (flash : Flash) (base at : ℕ) (entry : List ℕ)
             is.firm_pages (base + q) (omega arith)
             (elsewhere (payload (base + q)) true (flash.loose (base + q)) (low q le) ∙ firm within))
 
-    -- where the payload stands, each content that differs at the gate alone has the entry where the gate is open
+    -- where the payload stands, each content that differs at the gate alone has the entry where the
+    -- gate is open
     opened_after : (image : ℕ → List ℕ)
         → ((p : ℕ) → p < 256 * blocks → only_page (base + at) p ≡ false → image p ≡ filled p)
-        → image (base + at) ≡ open_page → HasEntries (area_of base image) start (entries ++ entry ∷ []) next
+        → image (base + at) ≡ open_page → HasEntries (area_of base image) start
+        (entries ++ entry ∷ []) next
     opened_after image same opened =
         entries_pushed (area_of base flash.content) (area_of base image) start entries at entry next
         stands.has before here behind
       where
         there : (q : ℕ) → q < 512 → (q ≡ at → ⊥) → image (base + q) ≡ filled (base + q)
         there q within other =
-            same (base + q) (omega arith) (not_only (base + at) (base + q) (λ e. other (omega arith)))
+            same (base + q) (omega arith) (not_only (base + at) (base + q)
+            (λ e. other (omega arith)))
 
         before : (q : ℕ) → start ≤ q → q < at → area_of base image q ≡ area_of base flash.content q
         before q from lt = area_same base flash.content image q (λ within.
@@ -124,12 +135,14 @@ module _ (blocks : ℕ) (flash : Flash) (base at : ℕ) (entry : List ℕ)
         here =
             at_open (area_of base image) at (open_gate at (area_of base image at) (omega arith)
             (area_page base image at (omega arith) ∙ opened))
-            ∙ text_spelled (area_of base image) (at + 1) entry 5116 shortest longest (omega arith) room spelled
+            ∙ text_spelled (area_of base image) (at + 1) entry 5116 shortest longest
+            (omega arith) room spelled
 
         behind : entry_at (area_of base image) next ≡ End
         behind = ends_here (area_of base image) next (λ below open_next.
             shut next (omega arith) (omega arith)
-            (sym (area_page base image next (omega arith) ∙ there next (omega arith) (λ e. omega arith)
+            (sym (area_page base image next (omega arith)
+            ∙ there next (omega arith) (λ e. omega arith)
             ∙ payload_elsewhere (base + next) (high next (omega arith))) ∙ open_next))
 
     pub gate_before_or_after : (image : ℕ → List ℕ) → HasAllButGate blocks flash base at entry image
@@ -141,7 +154,8 @@ module _ (blocks : ℕ) (flash : Flash) (base at : ℕ) (entry : List ℕ)
         elsewhere = others;
       })
       | inr closed ↦ inl (record {
-        has = entries_kept (area_of base flash.content) (area_of base image) start entries at stands.has
+        has = entries_kept (area_of base flash.content)
+            (area_of base image) start entries at stands.has
             (λ q from lt. area_same base flash.content image q (λ within.
             same (base + q) (omega arith) (not_only (base + at) (base + q) (λ e. omega arith))
             ∙ payload_elsewhere (base + q) (low q (omega arith))))
@@ -156,24 +170,31 @@ module _ (blocks : ℕ) (flash : Flash) (base at : ℕ) (entry : List ℕ)
     ]
       where
         same : (p : ℕ) → p < 256 * blocks → only_page (base + at) p ≡ false → image p ≡ filled p
-        same p within out = is.firm_pages p within (elsewhere (only_page (base + at) p) true false out)
+        same p within out = is.firm_pages p within
+            (elsewhere (only_page (base + at) p) true false out)
 
-        others : (p : ℕ) → p < 256 * blocks → entry_pages base at entry p ≡ false → image p ≡ flash.content p
-        others p within out = same p within (not_gate p out) ∙ payload_elsewhere p (not_payload p out)
+        others : (p : ℕ) → p < 256 * blocks → entry_pages base at entry p ≡ false
+            → image p ≡ flash.content p
+        others p within out = same p within (not_gate p out)
+            ∙ payload_elsewhere p (not_payload p out)
 
     -- after the last barrier a stop leaves the entry
-    pub entry_stands : Stands (with_entry base at entry flash) base start (entries ++ entry ∷ []) next
+    pub entry_stands : Stands (with_entry base at entry flash) base start
+        (entries ++ entry ∷ []) next
     entry_stands = record {
       has = opened_after (with_entry base at entry flash).content
           (λ p within out. elsewhere (only_page (base + at) p) open_page (filled p) out)
-          (inside (only_page (base + at) (base + at)) open_page (filled (base + at)) (is_only (base + at)));
+          (inside (only_page (base + at) (base + at)) open_page (filled (base + at))
+          (is_only (base + at)));
       firm_pages = λ q from le lt. refl;
     }
 
   -- and what is behind it is clean
-  pub behind_clean : (q : ℕ) → next ≤ q → q < 512 → IsClean (with_entry base at entry flash) (base + q)
+  pub behind_clean : (q : ℕ) → next ≤ q → q < 512
+      → IsClean (with_entry base at entry flash) (base + q)
   behind_clean q from to = (
-    elsewhere (only_page (base + at) (base + q)) false _ (not_only (base + at) (base + q) (λ e. omega arith))
+    elsewhere (only_page (base + at) (base + q)) false _
+        (not_only (base + at) (base + q) (λ e. omega arith))
         ∙ elsewhere (payload (base + q)) false (flash.erased (base + q)) (high q from)
         ∙ (clean q (omega arith) to).0,
     refl,

@@ -38,14 +38,15 @@ with_payload base at entry flash = with_text base (at + 1) entry flash
 
 abbrev pub with_entry : ℕ → ℕ → List ℕ → Flash → Flash
 with_entry base at entry flash =
-    firm (written (only_page (base + at)) (λ _. open_page) (firm (with_payload base at entry flash)))
+    let filled = firm (with_payload base at entry flash) in
+    firm (written (only_page (base + at)) (λ _. open_page) filled)
 
 -- the pages of the area from this one on are clean
 abbrev pub IsCleanFrom : Flash → ℕ → ℕ → Type 0
 IsCleanFrom flash base at = (q : ℕ) → at ≤ q → q < 512 → IsClean flash (base + q)
 
--- From this page on the area has these entries, and a stop leaves them and what ends them. What stands in
--- front of them is of no account.
+-- From this page on the area has these entries, and a stop leaves them and what ends them. What
+-- stands in front of them is of no account.
 pub record Stands (flash : Flash) (base start : ℕ) (entries : List (List ℕ)) (end : ℕ)
     : Type 0 where
   pub has : HasEntries (area_of base flash.content) start entries end
@@ -54,9 +55,11 @@ pub record Stands (flash : Flash) (base start : ℕ) (entries : List (List ℕ))
 -- each page but the gate is as it will be, on a device of so many blocks
 abbrev pub HasAllButGate : ℕ → Flash → ℕ → ℕ → List ℕ → (ℕ → List ℕ) → Type 0
 HasAllButGate blocks flash base at entry image =
-    IsImage blocks (loosened (only_page (base + at)) (firm (with_payload base at entry flash))) image
+    let filled = firm (with_payload base at entry flash) in
+    IsImage blocks (loosened (only_page (base + at)) filled) image
 
--- the entries are the old ones, and outside of the new one's pages the image is one of the flash before
+-- the entries are the old ones, and outside of the new one's pages the image is one of the flash
+-- from before
 pub record IsBefore (blocks : ℕ) (flash : Flash) (base start : ℕ) (entries : List (List ℕ))
     (at : ℕ) (entry : List ℕ) (image : ℕ → List ℕ) : Type 0 where
   pub has : HasEntries (area_of base image) start entries at

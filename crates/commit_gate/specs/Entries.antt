@@ -1,5 +1,7 @@
 -- Entries of an area of 512 pages: what stands at a page, and the entries from a page on.
-use Rattle.std.specs.Prelude.{◌≡◌, ℕ, zero, suc, ◌+◌, ◌/◌, Bool, true, false, ◌&&◌, nat_le, nat_lt, List, [], ◌∷◌, ◌++◌, take, drop, replicate, bytes_eq, Option, Some, None, option_map, if◌then◌else◌, ⊤}
+use Rattle.std.specs.Prelude.{◌≡◌, ℕ, zero, suc, ◌+◌, ◌/◌, Bool, true, false, ◌&&◌, nat_le, nat_lt}
+use Rattle.std.specs.Prelude.{List, [], ◌∷◌, ◌++◌, take, drop, replicate, bytes_eq, Option, Some}
+use Rattle.std.specs.Prelude.{None, option_map, if◌then◌else◌, ⊤}
 use Rattle.byteorder.specs.Endian.{big_number}
 
 -- a gate page that is open
@@ -28,7 +30,8 @@ length_in page = big_number 4 page
 
 -- whether a text of this length, at most the longest, may stand from the page `first` on
 abbrev pub is_lawful : ℕ → ℕ → ℕ → Bool
-is_lawful longest first len = nat_le 1 len && nat_le len longest && nat_le (first + payload_pages len) 512
+is_lawful longest first len =
+    nat_le 1 len && nat_le len longest && nat_le (first + payload_pages len) 512
 
 -- the text of this length, from the page `first` on
 abbrev pub text_of : (ℕ → List ℕ) → ℕ → ℕ → List ℕ
@@ -51,7 +54,8 @@ text_by true len text next = Entry (text tt) next
 unfoldable pub text_at : ℕ → (ℕ → List ℕ) → ℕ → EntryAt
 text_at longest area first =
     let len = length_in (area first) in
-    text_by (is_lawful longest first len) len (λ _. text_of area first len) (first + payload_pages len)
+    text_by (is_lawful longest first len) len (λ _. text_of area first len)
+    (first + payload_pages len)
 
 -- what is behind a gate, where it is open
 abbrev pub behind_gate : Bool → (⊤ → EntryAt) → EntryAt
@@ -60,7 +64,8 @@ behind_gate true payload = payload tt
 
 -- what stands at a gate: a gate in the last page has no room for a payload, and ends the entries
 unfoldable pub entry_at : (ℕ → List ℕ) → ℕ → EntryAt
-entry_at area at = behind_gate (nat_lt at 511 && is_open (area at)) (λ _. text_at 5116 area (at + 1))
+entry_at area at =
+    behind_gate (nat_lt at 511 && is_open (area at)) (λ _. text_at 5116 area (at + 1))
 
 -- an entry with those behind it
 abbrev pub with_rest : EntryAt → (ℕ → Option (List (List ℕ))) → Option (List (List ℕ))
@@ -80,4 +85,5 @@ IsDamaged area at = entries_from 512 area at ≡ None
 -- From this page on the area has these entries, the last of which ends before the page `end`.
 abbrev pub HasEntries : (ℕ → List ℕ) → ℕ → List (List ℕ) → ℕ → Type 0
 HasEntries area at [] end = (at ≡ end) × (entry_at area end ≡ End)
-HasEntries area at (entry ∷ entries) end = (next : ℕ) × (entry_at area at ≡ Entry entry next) × HasEntries area next entries end
+HasEntries area at (entry ∷ entries) end =
+    (next : ℕ) × (entry_at area at ≡ Entry entry next) × HasEntries area next entries end

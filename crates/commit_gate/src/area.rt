@@ -36,7 +36,8 @@ impl Area {
         board.read_page(self.first + at / 256, at % 256, into)
     }
 
-    /// Programs the clean page `at` with 256 octets. Until a barrier, a stop may leave anything in it.
+    /// Programs the clean page `at` with 256 octets. Until a barrier, a stop may leave anything in
+    /// it.
     pub fn program<B: Board>(self, board: &mut B, at: u32, from: &[u8]) -> Result<(), Failed>
         requires first { self.first ≤ 5 }
         requires place { at < 512 }
@@ -44,17 +45,21 @@ impl Area {
         requires clean { TellsFlash B.means board.old
             → IsClean (B.means.flash board.old) (256 * self.first + at) }
 
-        ensures ok { OnOk result (TellsFlash B.means board.old → B.means.flash board.new
-            ≡ written (only_page (256 * self.first + at)) (λ _. from.now) (B.means.flash board.old)) }
-        ensures err { OnErr result (TellsFlash B.means board.old → Fails (only_page (256 * self.first + at))
+        ensures ok { OnOk result (TellsFlash B.means board.old → B.means.flash board.new ≡ written
+            (only_page (256 * self.first + at)) (λ _. from.now) (B.means.flash board.old)) }
+        ensures err { OnErr result (TellsFlash B.means board.old → Fails
+            (only_page (256 * self.first + at))
             (B.means.flash board.old) (B.means.flash board.new)) }
-        ensures others { TellsFlash B.means board.old → SameElsewhere (only_page (256 * self.first + at))
+        ensures others { TellsFlash B.means board.old → SameElsewhere
+            (only_page (256 * self.first + at))
             (B.means.flash board.old) (B.means.flash board.new) }
-        ensures later { TellsFlash B.means board.old → (B.means.flash board.new ≡ B.means.flash board.old)
+        ensures later { TellsFlash B.means board.old
+            → (B.means.flash board.new ≡ B.means.flash board.old)
             ⊎ (B.means.moment board.old < B.means.moment board.new) }
-        ensures seen { OnOk result (TellsFlash B.means board.old
-            → B.means.images board.new (B.means.moment board.new) (B.means.flash board.new).content) }
-        ensures touches { Touches B.means (only_page (256 * self.first + at)) 1 0 0 board.old board.new }
+        ensures seen { OnOk result (TellsFlash B.means board.old → B.means.images
+            board.new (B.means.moment board.new) (B.means.flash board.new).content) }
+        ensures touches { Touches B.means
+            (only_page (256 * self.first + at)) 1 0 0 board.old board.new }
         ensures counted { OnOk result
             (Rose (B.means.counts board.old).programs (B.means.counts board.new).programs) }
         ensures no_fault { OnOk result

@@ -15,8 +15,8 @@ ghost use Rattle.board.specs.Counts.{Rose, RoseBy};
 ghost use Rattle.board.specs.Meaning.{TellsFlash};
 ghost use Rattle.board.specs.Moments.{LeavesInTurn, LeavesOnly};
 ghost use Rattle.board.specs.Touches.{Touches};
-ghost use Rattle.commit_gate.specs.Commits.{HasAllButGate, IsBefore, IsBeforeOrAfter, IsCleanFrom, Stands};
-ghost use Rattle.commit_gate.specs.Commits.{entry_pages, with_entry};
+ghost use Rattle.commit_gate.specs.Commits.{HasAllButGate, IsBefore, IsBeforeOrAfter};
+ghost use Rattle.commit_gate.specs.Commits.{IsCleanFrom, Stands, entry_pages, with_entry};
 ghost use Rattle.commit_gate.specs.Entries.{payload_pages};
 
 use crate::area::Area;
@@ -26,9 +26,10 @@ use board::{Board, Failed};
 
 const OPEN: [u8; 256] = [0x5a; 256];
 
-/// Writes an entry of 1 to 5,116 octets behind the others of an area, with its gate in the page `at`,
-/// and answers the page behind it. From `Ok` on a stop leaves it. `Failed`: a call of the board failed;
-/// the entry is then there whole or not at all. No other page is touched, also where it failed.
+/// Writes an entry of 1 to 5,116 octets behind the others of an area, with its gate in the page
+/// `at`, and returns the page behind it. From `Ok` on a stop leaves it. `Failed`: a call of the
+/// board failed; the entry is then there whole or not at all. No other page is touched, also if it
+/// failed.
 pub fn append<B: Board>(board: &mut B, area: Area, at: u32, entry: &[u8]) -> Result<u32, Failed>
     requires first { (area.first ≡ 3) ⊎ (area.first ≡ 5) }
     requires shortest { 1 ≤ length entry.now }
@@ -44,7 +45,8 @@ pub fn append<B: Board>(board: &mut B, area: Area, at: u32, entry: &[u8]) -> Res
         → B.means.images board.new (B.means.moment board.new) (B.means.flash board.new).content) }
 
     // From then on a stop leaves the entry, and what is behind it is clean.
-    ensures stands { OnOk result (TellsFlash B.means board.old → (start : ℕ) (entries : List (List ℕ))
+    ensures stands { OnOk result (TellsFlash B.means board.old
+        → (start : ℕ) (entries : List (List ℕ))
         → Stands (B.means.flash board.old) (256 * area.first) start entries at
         → Stands (B.means.flash board.new) (256 * area.first) start (entries ++ entry.now ∷ [])
         (at + 1 + payload_pages (length entry.now))) }
@@ -53,13 +55,15 @@ pub fn append<B: Board>(board: &mut B, area: Area, at: u32, entry: &[u8]) -> Res
         (at + 1 + payload_pages (length entry.now))) }
 
     // A stop at any moment of the call leaves the entries from before it, or those and this one.
-    ensures any_moment { TellsFlash B.means board.old → (start : ℕ) (entries : List (List ℕ))
+    ensures any_moment { TellsFlash B.means board.old
+        → (start : ℕ) (entries : List (List ℕ))
         → Stands (B.means.flash board.old) (256 * area.first) start entries at
         → LeavesOnly B.means board.old board.new (IsBeforeOrAfter (B.means.device board.old).blocks
         (B.means.flash board.old) (256 * area.first) start entries at entry.now) }
 
     // Up to some moment no image has the entry. Behind it each has all of the entry but its gate.
-    ensures in_turn { TellsFlash B.means board.old → (start : ℕ) (entries : List (List ℕ))
+    ensures in_turn { TellsFlash B.means board.old
+        → (start : ℕ) (entries : List (List ℕ))
         → Stands (B.means.flash board.old) (256 * area.first) start entries at
         → LeavesInTurn B.means board.old board.new
         (IsBefore (B.means.device board.old).blocks (B.means.flash board.old)

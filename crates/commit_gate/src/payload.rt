@@ -39,7 +39,8 @@ pub fn fill_page(entry: &[u8], index: u32, page: &mut [u8])
     }
 }
 
-/// Whether a text of `length` octets, at most `longest`, may stand from the page `first` of an area on.
+/// Whether a text of `length` octets, at most `longest`, may stand from the page `first` of an area
+/// on.
 pub fn is_lawful(longest: u32, first: u32, length: u32) -> bool
     requires longest { longest ≤ 20476 }
     requires first { first ≤ 512 }

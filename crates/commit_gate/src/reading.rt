@@ -50,8 +50,9 @@ fn read_gate<B: Board>(board: &mut B, area: Area, at: u32) -> Result<bool, Faile
     Ok(is_open(&page))
 }
 
-/// What stands at the page `at`, at most 512, read into `buf`, which has at least 5,120 octets. Each page is
-/// read once, and none behind a gate that is not open. `Failed`: a read failed.
+/// What stands at the page `at`, at most 512, read into `buf`, which has at least 5,120 octets.
+/// Each page is read once, and none behind a gate that is not open. `Failed`: a read failed; `buf`
+/// then holds any octets.
 pub fn next_entry<'a, B: Board>(
     board: &mut B,
     area: Area,

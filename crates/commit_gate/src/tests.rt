@@ -1,5 +1,6 @@
-// What no clause says: that an entry is read back octet by octet from all that stops leave, that the calls
-// succeed where there is memory, and that the rest of a buffer that is lent to an answer is left.
+// What no clause says: that an entry is read back octet by octet from all that stops leave, that
+// the calls succeed where there is memory, and that the rest of a buffer that is lent to an answer
+// is left.
 ghost use Rattle.std.specs.Prelude.{◌≤◌};
 
 use crate::area::Area;

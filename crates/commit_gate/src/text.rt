@@ -1,5 +1,7 @@
-// A text stands behind its length in four octets, highest first, with zeros to the end of its last page.
-ghost use Rattle.std.specs.Prelude.{◌≡◌, ◌<◌, ◌≤◌, ◌+◌, ◌-◌, ◌*◌, length, drop, take, IfOk, OnOk, OnErr};
+// A text stands behind its length in four octets, highest first, with zeros to the end of its last
+// page.
+ghost use Rattle.std.specs.Prelude.{◌≡◌, ◌<◌, ◌≤◌, ◌+◌, ◌-◌, ◌*◌, length, drop, take};
+ghost use Rattle.std.specs.Prelude.{IfOk, OnOk, OnErr};
 ghost use Rattle.board.specs.Counts.{Rose, RoseBy};
 ghost use Rattle.board.specs.Meaning.{TellsFlash};
 ghost use Rattle.board.specs.Reads.{ReadsOnly};
@@ -12,8 +14,8 @@ use crate::payload::{fill_page, payload_pages};
 use board::{Board, Failed};
 use byteorder::{BigEndian, ByteOrder};
 
-/// Programs a text of at most 20,476 octets into the pages from `first` on. Until a barrier, a stop may
-/// leave anything in them. `Failed`: a program failed; no other page changed.
+/// Programs a text of at most 20,476 octets into the pages from `first` on. Until a barrier, a stop
+/// may leave anything in them. `Failed`: a program failed; no other page changed.
 pub fn write_text<B: Board>(
     board: &mut B,
     area: Area,
@@ -28,7 +30,8 @@ pub fn write_text<B: Board>(
 
     ensures ok { OnOk result (TellsFlash B.means board.old → B.means.flash board.new
         ≡ with_text (256 * area.first) first text.now (B.means.flash board.old)) }
-    ensures others { TellsFlash B.means board.old → SameElsewhere (text_pages (256 * area.first) first text.now)
+    ensures others { TellsFlash B.means board.old → SameElsewhere
+        (text_pages (256 * area.first) first text.now)
         (B.means.flash board.old) (B.means.flash board.new) }
     ensures seen { OnOk result (TellsFlash B.means board.old
         → B.means.images board.new (B.means.moment board.new) (B.means.flash board.new).content) }
@@ -49,8 +52,8 @@ pub fn write_text<B: Board>(
     Ok(())
 }
 
-/// Reads the page `first` into the front of `buf`, at least 256 octets, and answers the length in its
-/// first four octets. After `Failed`, those 256 octets are any. The rest of `buf` is left.
+/// Reads the page `first` into the front of `buf`, at least 256 octets, and returns the length in
+/// its first four octets. After `Failed`, these 256 octets may be any. The rest of `buf` is left.
 pub fn read_length<B: Board>(
     board: &mut B,
     area: Area,
@@ -79,7 +82,8 @@ pub fn read_length<B: Board>(
 }
 
 /// Reads the pages behind the page `first`, whose octets stand in front of `buf`, until it has the
-/// octets of so many pages. After `Failed`, those behind the first page are any. The rest of `buf` is left.
+/// octets of so many pages. After `Failed`, those behind the first page hold anything. The rest of
+/// `buf` is left.
 pub fn read_rest<B: Board>(
     board: &mut B,
     area: Area,

@@ -47,7 +47,8 @@ kind_of_another_app = refl
 kind_plain : covers (Kind 100 3 25) plain ≡ false
 kind_plain = refl
 
--- A list with a pattern: each pair of forms, where the new one covers the other, is covered, is the same, or is apart.
+-- A list with a pattern: each pair of forms, where the new one covers the other, is covered, is the
+-- same, or is apart.
 
 every_to_none : with_pattern Every [] ≡ Every ∷ []
 every_to_none = refl

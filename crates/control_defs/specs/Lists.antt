@@ -41,7 +41,8 @@ abbrev pub pattern_cmp : Pattern → Pattern → Ordering
 pattern_cmp p q =
     ordering_then (nat_cmp (pattern_form p) (pattern_form q))
     (ordering_then (nat_cmp (pattern_apid p) (pattern_apid q))
-    (ordering_then (nat_cmp (pattern_service p) (pattern_service q)) (nat_cmp (pattern_subtype p) (pattern_subtype q))))
+    (ordering_then (nat_cmp (pattern_service p) (pattern_service q))
+    (nat_cmp (pattern_subtype p) (pattern_subtype q))))
 
 -- a pattern is before another
 abbrev pub is_before : Pattern → Pattern → Bool
@@ -79,17 +80,20 @@ without_covered pattern patterns = filter (λ other. not (pattern_covers pattern
 -- a pattern between those of a list that are before it and those that it is before
 abbrev pub placed : Pattern → List Pattern → List Pattern
 placed pattern patterns =
-    filter (λ other. is_before other pattern) patterns ++ pattern ∷ filter (λ other. is_before pattern other) patterns
+    filter (λ other. is_before other pattern) patterns
+    ++ pattern ∷ filter (λ other. is_before pattern other) patterns
 
--- A list with a pattern: the same list where it covers the pattern already, or else the pattern at its place
--- in the order, among those that it does not cover.
+-- A list with a pattern: the same list where it covers the pattern already, or else the pattern at
+-- its place in the order, among those that it does not cover.
 abbrev pub with_pattern : Pattern → List Pattern → List Pattern
 with_pattern pattern patterns =
-    if is_covered pattern patterns then patterns else placed pattern (without_covered pattern patterns)
+    if is_covered pattern patterns then patterns
+    else placed pattern (without_covered pattern patterns)
 
 -- a list without a pattern itself
 abbrev pub without_pattern : Pattern → List Pattern → List Pattern
-without_pattern pattern patterns = filter (λ other. not (is_eq (pattern_cmp other pattern))) patterns
+without_pattern pattern patterns =
+    filter (λ other. not (is_eq (pattern_cmp other pattern))) patterns
 
 -- whether a pattern itself stands in a list
 abbrev pub is_standing : Pattern → List Pattern → Bool

@@ -1,5 +1,5 @@
--- Patterns as octets: one with the form, two with the APID, one with the service type and one with the
--- message subtype. A field that the form does not use is 0.
+-- Patterns as octets: one with the form, two with the APID, one with the service type and one with
+-- the message subtype. A field that the form does not use is 0.
 use Rattle.std.specs.Prelude.{ℕ, List, [], ◌∷◌, ◌++◌}
 use Rattle.octet_fields.specs.Fields.{big_bytes}
 use Rattle.control_defs.specs.declared.patterns.Pattern.{Pattern}

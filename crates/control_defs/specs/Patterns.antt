@@ -35,8 +35,10 @@ pattern_covers (App apid) (Service apid2 service2) = apid == apid2
 pattern_covers (App apid) (Kind apid2 service2 subtype2) = apid == apid2
 pattern_covers (Service apid service) Every = false
 pattern_covers (Service apid service) (App apid2) = false
-pattern_covers (Service apid service) (Service apid2 service2) = apid == apid2 && service == service2
-pattern_covers (Service apid service) (Kind apid2 service2 subtype2) = apid == apid2 && service == service2
+pattern_covers (Service apid service) (Service apid2 service2) =
+    apid == apid2 && service == service2
+pattern_covers (Service apid service) (Kind apid2 service2 subtype2) =
+    apid == apid2 && service == service2
 pattern_covers (Kind apid service subtype) Every = false
 pattern_covers (Kind apid service subtype) (App apid2) = false
 pattern_covers (Kind apid service subtype) (Service apid2 service2) = false

@@ -26,8 +26,8 @@ impl StoreKind {
     }
 }
 
-/// One instruction of a request. A `store`, `from` or `to`, or a lone number, is the identifier of a
-/// packet store; times are in 1/65,536 s and below 2^48, sizes are in pages of 256 octets.
+/// One instruction of a request. A `store`, `from` or `to`, or a lone number, is the identifier of
+/// a packet store; times are in 1/65,536 s and below 2^48, sizes are in pages of 256 octets.
 #[derive(Clone, Copy, Debug, PartialEq, Eq)]
 pub enum Instruction {
     /// Forwards what the pattern covers.

@@ -8,11 +8,12 @@ ghost use Rattle.control_defs.specs.Patterns.{HasPatternOctets, IsKey, IsPattern
 
 use std::cmp::Ordering;
 
-/// A pattern covers another, whose numbers are in their ranges, exactly where it covers each key that
-/// the other covers.
+/// A pattern covers another, whose numbers are in their ranges, exactly where it covers each key
+/// that the other covers.
 pub fn covering_is_inclusion()
     ensures { (p q : Pattern) → IsPattern q → HasPatternOctets q
-        → (pattern_covers p q ≡ true) ↔ ((key : Key) → IsKey key → covers q key ≡ true → covers p key ≡ true) }
+        → (pattern_covers p q ≡ true)
+        ↔ ((key : Key) → IsKey key → covers q key ≡ true → covers p key ≡ true) }
 {}
 
 /// The order of patterns is total, and patterns that it does not tell apart are the same.
@@ -21,12 +22,13 @@ pub fn order_is_total()
     ensures same { (p q : Pattern) → pattern_cmp p q ≡ Ordering.Equal → p ≡ q }
 {}
 
-/// A list with a pattern more, or without one, is a list of patterns, as long as it has at most 64; and a
-/// list with a pattern covers the keys that the list or the pattern covers.
+/// A list with a pattern more, or without one, is a list of patterns, as long as it has at most 64;
+/// and a list with a pattern covers the keys that the list or the pattern covers.
 pub fn lists_stay_lawful()
     ensures with_one { (p : Pattern) (xs : List Pattern) → IsPatternList xs → IsPattern p
         → length (with_pattern p xs) ≤ 64 → IsPatternList (with_pattern p xs) }
-    ensures without { (p : Pattern) (xs : List Pattern) → IsPatternList xs → IsPatternList (without_pattern p xs) }
+    ensures without { (p : Pattern) (xs : List Pattern) → IsPatternList xs
+        → IsPatternList (without_pattern p xs) }
     ensures covering { (p : Pattern) (xs : List Pattern) (key : Key)
         → any_covers (with_pattern p xs) key ≡ (any_covers xs key || covers p key) }
 {}

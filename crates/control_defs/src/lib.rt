@@ -1,5 +1,5 @@
-//! What control requests speak of: keys of packets, patterns that cover keys, lists of patterns, and
-//! instructions; and the octets of patterns.
+//! What control requests speak of: keys of packets, patterns that cover keys, lists of patterns,
+//! and instructions; and the octets of patterns.
 #![tactic(auto)]
 
 mod instructions;

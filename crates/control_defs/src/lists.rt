@@ -16,8 +16,8 @@ pub struct Limit;
 #[derive(Clone, Copy, Debug, PartialEq, Eq)]
 pub struct Absent;
 
-/// What is forwarded, or what a store stores (ECSS-E-ST-70-41C, 6.14 and 6.15): at most 64 patterns, rising
-/// in the order of patterns. None covers another.
+/// What is forwarded, or what a store stores (ECSS-E-ST-70-41C, 6.14 and 6.15): at most 64
+/// patterns, rising in the order of patterns. None covers another.
 #[derive(Drop)]
 pub struct Patterns {
     items: ArrayVec<Pattern, 64>,
@@ -60,9 +60,9 @@ impl Patterns {
         self.items.iter().any(|pattern| pattern.covers(key))
     }
 
-    /// Adds a pattern, whose APID is at most 2,047, at its place in the order, and takes out those that it
-    /// covers. Where one of the list covers it, the list stays as it is. `Limit` where 65 patterns would
-    /// stand.
+    /// Adds a pattern, whose APID is at most 2,047, at its place in the order, and takes out those
+    /// that it covers. Where one of the list covers it, the list stays as it is. `Limit` where 65
+    /// patterns would stand.
     pub fn add(&mut self, pattern: Pattern) -> Result<(), Limit>
         requires { IsPattern pattern }
         ensures ok { OnOk result (self.new ≡ with_pattern pattern self.old) }
@@ -80,7 +80,8 @@ impl Patterns {
         Ok(())
     }
 
-    /// Takes out the pattern itself. `Absent` where it is not in the list, even if another covers it.
+    /// Takes out the pattern itself. `Absent` where it is not in the list, even if another covers
+    /// it.
     pub fn remove(&mut self, pattern: Pattern) -> Result<(), Absent>
         ensures ok { OnOk result (self.new ≡ without_pattern pattern self.old) }
         ensures absent { IsErr result ↔ ¬ (Contains self.old pattern) }

@@ -17,9 +17,9 @@ fn put_fields(form: u8, apid: u16, service: u8, subtype: u8, out: &mut [u8], at:
     put_u8(out, at + 4, subtype);
 }
 
-/// Writes a pattern in five octets at `at`, and answers the place behind it: its form, 0 to 3 in the order of
-/// the forms, in one octet, its APID in two, its service type in one and its message subtype in one. What the
-/// form does not have is 0. The rest of `out` stays.
+/// Writes a pattern in five octets at `at`, and answers the place behind it: its form, 0 to 3 in
+/// the order of the forms, in one octet, its APID in two, its service type in one and its message
+/// subtype in one. What the form does not have is 0. The rest of `out` stays.
 pub fn put_pattern(pattern: Pattern, out: &mut [u8], at: usize) -> usize
     requires { at + 5 ≤ length out.old }
     ensures place { result ≡ at + 5 }

@@ -4,8 +4,8 @@ ghost use Rattle.control_defs.specs.Patterns.{covers, pattern_covers};
 
 use crate::keys::Key;
 
-/// A set of keys. An APID in a pattern is at most 2,047. Patterns are ordered by form, as they stand
-/// here, then by their fields from the left.
+/// A set of keys. An APID in a pattern is at most 2,047. Patterns are ordered by form, as they
+/// stand here, then by their fields from the left.
 #[derive(Clone, Copy, Debug, Default, PartialEq, Eq, PartialOrd, Ord)]
 pub enum Pattern {
     /// Every key.

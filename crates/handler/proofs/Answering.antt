@@ -25,12 +25,6 @@ use Rattle.handler.specs.Counting.{IsCountOf, and_then, is_forwarded, is_retriev
 use Rattle.handler.specs.declared.carrying_out.Outcome.{Outcome}
 use Rattle.handler.specs.declared.sent.Sent.{Sent}
 
--- no report
-pub replied-none : (number moment : ℕ) (table : Table) → table.reports < 16384 → replied number moment table [] ≡ record { table = table; outputs = [] }
-replied-none number moment table small =
-    let count : count_behind table.reports 0 ≡ table.reports = omega arith in
-    ap (λ (n : ℕ). record { table = record table { reports = n }; outputs = [] }) count
-
 -- some, and others behind them
 pub replied-append : (number moment : ℕ) (table : Table) (xs ys : List Report) → table.reports < 16384
     → replied number moment table (xs ++ ys) ≡ behind_outputs (replied number moment table xs).outputs (replied number moment (replied number moment table xs).table ys)

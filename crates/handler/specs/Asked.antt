@@ -15,4 +15,5 @@ content_asked None table = []
 -- the reports on the request with this identifier, where the table is as its instructions left it
 abbrev pub reports_in : (identifier : List ℕ) → Outcome → Table → List Report
 reports_in identifier outcome table =
-    map (verdict_report identifier) outcome.before.items ++ content_asked outcome.asked table ++ map (verdict_report identifier) outcome.after.items
+    map (verdict_report identifier) outcome.before.items ++ content_asked outcome.asked table
+    ++ map (verdict_report identifier) outcome.after.items

@@ -15,8 +15,9 @@ abbrev pub is_wanted : (wanted flag : Bool) → Bool
 is_wanted true flag = flag
 is_wanted false flag = not flag
 
--- A flag of the boot store as it was set, where the store of this identifier is that one and its flag is
--- not so already.
+-- A flag of the boot store as it was set, where the store of this identifier is that one and its
+-- flag is not so already.
 abbrev pub set_flag : (store : ℕ) → (wanted flag : Bool) → Result Bool Refusal
 set_flag store wanted flag =
-    if 1 == store then (if is_wanted wanted flag then Err AlreadySo else Ok wanted) else Err UnknownStore
+    if 1 == store then (if is_wanted wanted flag then Err AlreadySo else Ok wanted)
+    else Err UnknownStore

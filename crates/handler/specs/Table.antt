@@ -10,7 +10,8 @@ use Rattle.control_defs.specs.Patterns.{any_covers}
 use Rattle.pst_model.specs.Table.{Store, Stored, Table, after_format, boot_store}
 
 -- the boot store with what changes of it
-abbrev pub store_of : (storage open_on : Bool) → (types : List Pattern) → List Stored → (behind : ℕ) → Store
+abbrev pub store_of : (storage open_on : Bool) → (types : List Pattern) → List Stored → (behind : ℕ)
+    → Store
 store_of storage open_on types packets behind = record boot_store {
   storage = storage;
   open_on = open_on;
@@ -21,11 +22,17 @@ store_of storage open_on types packets behind = record boot_store {
 
 -- a table of one store
 abbrev pub table_with : (now reports : ℕ) → (forward : List Pattern) → Store → Table
-table_with now reports forward store = record after_format { now = now; reports = reports; forward = forward; stores = store ∷ [] }
+table_with now reports forward store = record after_format {
+  now = now;
+  reports = reports;
+  forward = forward;
+  stores = store ∷ [];
+}
 
 -- the store of a table in memory
 abbrev pub store_in : MemTable → Store
-store_in table = store_of table.storage table.open_on table.types (packets_of table.packets.items) table.behind
+store_in table =
+    store_of table.storage table.open_on table.types (packets_of table.packets.items) table.behind
 
 abbrev pub table_of : MemTable → Table
 table_of table = table_with table.clock table.reports table.forward (store_in table)

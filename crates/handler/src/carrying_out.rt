@@ -27,7 +27,8 @@ pub struct Outcome<'a> {
 // Carries out instructions in their order, and tells which failed.
 fn carry_out_all(table: &mut MemTable, items: &Items<'_>) -> Failures
     requires { is_pending (asked items.now).0 (asked items.now).1 ≡ false }
-    ensures { carry_out (listed items.now) (table_of table.old) ≡ record { table = table_of table.new; failures = result.items } }
+    ensures { carry_out (listed items.now) (table_of table.old)
+        ≡ record { table = table_of table.new; failures = result.items } }
 {
     let mut failures = Failures::new();
     for at in 0..items.len() {
@@ -38,10 +39,13 @@ fn carry_out_all(table: &mut MemTable, items: &Items<'_>) -> Failures
     failures
 }
 
-/// Judges a request, carries out its instructions where no judgement refuses it, and tells what answers it.
+/// Judges a request, carries out its instructions where no judgement refuses it, and tells what
+/// answers it.
 pub fn carry_out_request<'a>(table: &mut MemTable, packet: PacketView<'a>) -> Outcome<'a>
-    ensures { (number moment : ℕ) → answer number moment (octets_of packet.entry) (table_of table.old)
-        ≡ replied number moment (table_of table.new) (reports_in (identifier_of (octets_of packet.entry)) result (table_of table.new)) }
+    ensures { (number moment : ℕ) → answer number moment (octets_of packet.entry)
+        (table_of table.old)
+        ≡ replied number moment (table_of table.new)
+        (reports_in (identifier_of (octets_of packet.entry)) result (table_of table.new)) }
 {
     match judge(packet) {
         Ok(request) => {

@@ -20,7 +20,8 @@ type Rows = ArrayVec<SummaryRow, 32>;
 
 // The summaries that are asked for of stores that stand.
 fn summaries(table: &MemTable, items: &Items<'_>) -> Rows
-    ensures rows { result.items ≡ flat_map (summary_asked (table_of table.now).stores) (listed items.now) }
+    ensures rows { result.items ≡ flat_map (summary_asked (table_of table.now).stores)
+        (listed items.now) }
     ensures times { All HasTimes result.items }
 {
     let mut rows = Rows::new();
@@ -48,14 +49,15 @@ fn write_rows(rows: &[SummaryRow], head: Head, out: &mut [u8]) -> Option<u32>
     Some(write_summary(head, rows, out))
 }
 
-/// Writes the content report on instructions of one kind, where there is one, into the front of `out`, of at
-/// least 1,024 octets, and answers its length.
+/// Writes the content report on instructions of one kind, where there is one, into the front of
+/// `out`, of at least 1,024 octets, and answers its length.
 pub fn write_content(table: &MemTable, items: &Items<'_>, head: Head, out: &mut [u8]) -> Option<u32>
     requires count { head.count < 16384 }
     requires moment { head.moment < 2 ^ 48 }
     requires room { 1024 ≤ length out.old }
     ensures none { IfNone result (content_report (listed items.now) (table_of table.now) ≡ []) }
-    ensures some { IfSome result (HoldsReport (content_report (listed items.now) (table_of table.now)) head out.new) }
+    ensures some { IfSome result (HoldsReport
+        (content_report (listed items.now) (table_of table.now)) head out.new) }
 {
     match items.first() {
         Instruction::ForwardReport => Some(write_forward(head, table.forward(), out)),

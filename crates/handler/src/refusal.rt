@@ -21,8 +21,8 @@ pub enum Refusal {
 }
 
 impl Refusal {
-    /// The code of the failure, as reports of service 1 name it: 6 of an unknown store, 22 of what is
-    /// so already, 20 of a list of patterns with no room, 21 of a pattern that does not stand.
+    /// The code of the failure, as reports of service 1 name it: 6 of an unknown store, 22 of what
+    /// is so already, 20 of a list of patterns with no room, 21 of a pattern that does not stand.
     pub fn code(&self) -> u8
         ensures { result ≡ code_of self.now }
     {
@@ -35,7 +35,8 @@ impl Refusal {
     }
 }
 
-// Sets a flag of the boot store, where the store of this identifier is that one and its flag is not so.
+// Sets a flag of the boot store, where the store of this identifier is that one and its flag is not
+// so.
 pub(crate) fn set_flag(store: u16, wanted: bool, flag: &mut bool) -> Result<(), Refusal>
     ensures { MatchResult result
         (λ _. set_flag store wanted flag.old ≡ Ok flag.new)
@@ -53,7 +54,8 @@ pub(crate) fn set_flag(store: u16, wanted: bool, flag: &mut bool) -> Result<(), 
 
 // Finds the boot store.
 pub(crate) fn find_store(store: u16) -> Result<(), Refusal>
-    ensures { MatchResult result (λ _. (1 == store) ≡ true) (λ refusal. (refusal ≡ Refusal.UnknownStore) × ((1 == store) ≡ false)) }
+    ensures { MatchResult result (λ _. (1 == store) ≡ true)
+        (λ refusal. (refusal ≡ Refusal.UnknownStore) × ((1 == store) ≡ false)) }
 {
     if store == BOOT_STORE {
         Ok(())
@@ -67,7 +69,8 @@ pub(crate) fn add_pattern(patterns: &mut Patterns, pattern: Pattern) -> Result<(
     requires { IsPattern pattern }
     ensures { MatchResult result
         (λ _. add_pattern pattern patterns.old ≡ Ok patterns.new)
-        (λ refusal. (add_pattern pattern patterns.old ≡ Err (code_of refusal)) × (patterns.new ≡ patterns.old)) }
+        (λ refusal. (add_pattern pattern patterns.old ≡ Err (code_of refusal))
+        × (patterns.new ≡ patterns.old)) }
 {
     match patterns.add(pattern) {
         Ok(()) => Ok(()),
@@ -79,7 +82,8 @@ pub(crate) fn add_pattern(patterns: &mut Patterns, pattern: Pattern) -> Result<(
 pub(crate) fn delete_pattern(patterns: &mut Patterns, pattern: Pattern) -> Result<(), Refusal>
     ensures { MatchResult result
         (λ _. delete_pattern pattern patterns.old ≡ Ok patterns.new)
-        (λ refusal. (delete_pattern pattern patterns.old ≡ Err (code_of refusal)) × (patterns.new ≡ patterns.old)) }
+        (λ refusal. (delete_pattern pattern patterns.old ≡ Err (code_of refusal))
+        × (patterns.new ≡ patterns.old)) }
 {
     match patterns.remove(pattern) {
         Ok(()) => Ok(()),

@@ -103,15 +103,17 @@ impl MemTable {
         self.storage && !packet.is_idle() && self.types.covers(&key_of(packet))
     }
 
-    /// Whether an arriving packet is forwarded: it is not idle, and a forward pattern covers its key.
+    /// Whether an arriving packet is forwarded: it is not idle, and a forward pattern covers its
+    /// key.
     pub fn forwards(&self, packet: &PacketView<'_>) -> bool
         ensures { result ≡ is_chosen (table_of self.now).forward (octets_of packet.now) }
     {
         !packet.is_idle() && self.forward.covers(&key_of(packet))
     }
 
-    /// Stores an arriving packet at this moment, in 1/65,536 s and below 2^48, where storage is on, the packet
-    /// is not idle and a pattern of the store covers its key. Where memory is wanting, the table stays.
+    /// Stores an arriving packet at this moment, in 1/65,536 s and below 2^48, where storage is on,
+    /// the packet is not idle and a pattern of the store covers its key. Where memory is wanting,
+    /// the table stays.
     pub fn arrival(
         &mut self,
         alloc: Global,
@@ -119,7 +121,8 @@ impl MemTable {
         packet: PacketView<'_>,
     ) -> Result<(), AllocError>
         requires { moment < 2 ^ 48 }
-        ensures table { OnOk result ((number : ℕ) → table_of self.new ≡ (arrive number moment (octets_of packet.entry) (table_of self.old)).table) }
+        ensures table { OnOk result ((number : ℕ) → table_of self.new
+            ≡ (arrive number moment (octets_of packet.entry) (table_of self.old)).table) }
         ensures kept { OnErr result (table_of self.new ≡ table_of self.old) }
         ensures stored { OnErr result (IsTrue (is_stored (octets_of packet.entry) (table_of self.old))) }
     {
@@ -131,13 +134,16 @@ impl MemTable {
         Ok(())
     }
 
-    /// The packet of at most 4,096 octets that the next grant sends, on the channel of the store: the
-    /// first one that was not passed, where open retrieval is on.
+    /// The packet of at most 4,096 octets that the next grant sends, on the channel of the store:
+    /// the first one that was not passed, where open retrieval is on.
     pub fn next(&self) -> Option<&[u8]>
         ensures next { MatchOption result
             ((number : ℕ) → (grant number (table_of self.now)).outputs ≡ [])
-            (λ packet. (number : ℕ) → (grant number (table_of self.now)).outputs ≡ record { command = number; kind = Retrieved; channel = 1; packet = packet.now } ∷ []) }
-        ensures none { IfNone result ((number : ℕ) → (grant number (table_of self.now)).table ≡ table_of self.now) }
+            (λ packet. (number : ℕ) → (grant number (table_of self.now)).outputs
+            ≡ record { command = number; kind = Retrieved; channel = 1; packet = packet.now }
+            ∷ []) }
+        ensures none { IfNone result ((number : ℕ) → (grant number (table_of self.now)).table
+            ≡ table_of self.now) }
         ensures short { IfSome result (λ packet. length packet.now ≤ 4096) }
         ensures ahead { IfSome result (λ packet. HasNext self.now) }
     {
@@ -155,15 +161,16 @@ impl MemTable {
         self.behind += 1;
     }
 
-    /// Carries out an instruction of a kind that is carried out, or tells why it fails: it names another
-    /// store than the boot store (6.15.3), what it asks for is so already, or a list of patterns has no room
-    /// for its pattern, or does not have it. A failed one changes nothing.
+    /// Carries out an instruction of a kind that is carried out, or tells why it fails: it names
+    /// another store than the boot store (6.15.3), what it asks for is so already, or a list of
+    /// patterns has no room for its pattern, or does not have it. A failed one changes nothing.
     pub fn carry_out(&mut self, instruction: Instruction) -> Result<(), Refusal>
         requires carried { is_carried instruction ≡ true }
         requires lawful { IsInstruction instruction }
         ensures { MatchResult result
             (λ _. instruct instruction (table_of self.old) ≡ Ok (table_of self.new))
-            (λ refusal. (instruct instruction (table_of self.old) ≡ Err (code_of refusal)) × (table_of self.new ≡ table_of self.old)) }
+            (λ refusal. (instruct instruction (table_of self.old) ≡ Err (code_of refusal))
+            × (table_of self.new ≡ table_of self.old)) }
     {
         match instruction {
             Instruction::ForwardAdd(pattern) => add_pattern(&mut self.forward, pattern),
@@ -183,8 +190,10 @@ impl MemTable {
     fn add_type(&mut self, store: u16, pattern: Pattern) -> Result<(), Refusal>
         requires { IsInstruction (Instruction.AddTypes store pattern) }
         ensures { MatchResult result
-            (λ _. instruct (Instruction.AddTypes store pattern) (table_of self.old) ≡ Ok (table_of self.new))
-            (λ refusal. (instruct (Instruction.AddTypes store pattern) (table_of self.old) ≡ Err (code_of refusal)) × (table_of self.new ≡ table_of self.old)) }
+            (λ _. instruct (Instruction.AddTypes store pattern) (table_of self.old)
+            ≡ Ok (table_of self.new))
+            (λ refusal. (instruct (Instruction.AddTypes store pattern) (table_of self.old)
+            ≡ Err (code_of refusal)) × (table_of self.new ≡ table_of self.old)) }
     {
         if store != BOOT_STORE {
             return Err(Refusal::UnknownStore);
@@ -194,8 +203,10 @@ impl MemTable {
 
     fn delete_type(&mut self, store: u16, pattern: Pattern) -> Result<(), Refusal>
         ensures { MatchResult result
-            (λ _. instruct (Instruction.DeleteTypes store pattern) (table_of self.old) ≡ Ok (table_of self.new))
-            (λ refusal. (instruct (Instruction.DeleteTypes store pattern) (table_of self.old) ≡ Err (code_of refusal)) × (table_of self.new ≡ table_of self.old)) }
+            (λ _. instruct (Instruction.DeleteTypes store pattern) (table_of self.old)
+            ≡ Ok (table_of self.new))
+            (λ refusal. (instruct (Instruction.DeleteTypes store pattern) (table_of self.old)
+            ≡ Err (code_of refusal)) × (table_of self.new ≡ table_of self.old)) }
     {
         if store != BOOT_STORE {
             return Err(Refusal::UnknownStore);
@@ -229,7 +240,8 @@ impl MemTable {
 
     /// Counts a report that was made.
     pub fn report(&mut self)
-        ensures { table_of self.new ≡ record (table_of self.old) { reports = count_behind (table_of self.old).reports 1 } }
+        ensures { let table = table_of self.old in
+            table_of self.new ≡ record table { reports = count_behind table.reports 1 } }
     {
         self.reports = (self.reports + 1) % COUNTS;
     }

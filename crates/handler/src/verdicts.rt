@@ -25,7 +25,8 @@ const COMPLETION: u8 = 8;
 fn push_asked(verdicts: &mut Verdicts, acks: u8, flag: u8, verdict: Verdict)
     requires room { length verdicts.old.items < 34 }
     requires flag { 0 < flag }
-    ensures items { verdicts.new.items ≡ verdicts.old.items ++ if_asked (acks / flag % 2 == 1) verdict }
+    ensures items { verdicts.new.items ≡ verdicts.old.items
+        ++ if_asked (acks / flag % 2 == 1) verdict }
     ensures few { length verdicts.new.items ≤ length verdicts.old.items + 1 }
 {
     if acks / flag % 2 == 1 {
@@ -46,8 +47,9 @@ fn push_failures(verdicts: &mut Verdicts, failures: &[(u8, u8)])
     }
 }
 
-/// The verdicts on a request with these acknowledgement flags, of which at most 32 instructions failed, that
-/// stand in front of its content report: of acceptance, on each that failed, and of the start.
+/// The verdicts on a request with these acknowledgement flags, of which at most 32 instructions
+/// failed, that stand in front of its content report: of acceptance, on each that failed, and of
+/// the start.
 pub fn verdicts_before(acks: u8, failures: &[(u8, u8)]) -> Verdicts
     requires { length failures.now ≤ 32 }
     ensures { result.items ≡ verdicts_before acks failures.now }

@@ -13,7 +13,8 @@ use Rattle.pst_model.specs.Table.{Store, Table, after_format}
 abbrev reply : (command : ℕ) → List ℕ → Output
 reply command packet = record { command = command; kind = Reply; channel = 0; packet = packet }
 
--- a report of service 1 and its request's identifier, with less than 256 octets, reports and seconds
+-- a report of service 1 and its request's identifier, with less than 256 octets, reports and
+-- seconds
 abbrev report : (count size subtype moment : ℕ) → List ℕ → List ℕ
 report count size subtype moment content =
     0x08 ∷ 0x0a ∷ 0xc0 ∷ count ∷ 0x00 ∷ size ∷ 0x20 ∷ 0x01 ∷ subtype ∷ 0x00 ∷ 0x00 ∷ 0x00 ∷ 0x00
@@ -94,7 +95,8 @@ too_long = refl
 none_refuses : refusal_of suspend ≡ None
 none_refuses = refl
 
--- each combination of the acknowledgement flags, where nothing fails and where the third instruction does
+-- each combination of the acknowledgement flags, where nothing fails and where the third
+-- instruction does
 none_failed : map (λ acks. verdicts_before acks [] ++ completed acks []) (range_with_len 0 16)
     ≡ [] ∷ (Accepted ∷ []) ∷ (Started ∷ []) ∷ (Accepted ∷ Started ∷ []) ∷ [] ∷ (Accepted ∷ []) ∷ (Started ∷ []) ∷ (Accepted ∷ Started ∷ [])
     ∷ (Completed ∷ []) ∷ (Accepted ∷ Completed ∷ []) ∷ (Started ∷ Completed ∷ []) ∷ (Accepted ∷ Started ∷ Completed ∷ [])

@@ -53,7 +53,8 @@ no_content : (run after_format (Request 1 no_types ∷ [])).outputs
     ≡ reply (report 0 0x13 1 4 1 (identifier ++ 0x06 ∷ 0x00 ∷ 0x01 ∷ [])) ∷ reply (report 1 0x13 1 8 1 (identifier ++ 0x17 ∷ 0x00 ∷ 0x01 ∷ [])) ∷ []
 no_content = refl
 
--- [14,1] of Service(100, 3), flags 0: reports of that service are forwarded, and other packets are not
+-- [14,1] of Service(100, 3), flags 0: reports of that service are forwarded, and other packets are
+-- not
 abbrev forward : List ℕ
 forward = 0x18 ∷ 0x0a ∷ 0xc0 ∷ 0x00 ∷ 0x00 ∷ 0x0a ∷ 0x20 ∷ 0x0e ∷ 0x01 ∷ 0x00 ∷ 0x00 ∷ 0x01 ∷ 0x02 ∷ 0x00 ∷ 0x64 ∷ 0x03 ∷ 0x00 ∷ []
 

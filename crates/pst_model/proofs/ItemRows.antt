@@ -104,8 +104,8 @@ resize = (refl, refl, refl)
 channel : IsOne 15 28 (1 ∷ 0 ∷ 7 ∷ 255 ∷ []) (Channel 7 255)
 channel = (refl, refl, refl)
 
--- The octets that are wrong, in the second of two items: those of a pattern, each field that its form does
--- not use, and the octet of a store's kind.
+-- The octets that are wrong, in the second of two items: those of a pattern, each field that its
+-- form does not use, and the octet of a store's kind.
 abbrev first_item : List ℕ
 first_item = 2 ∷ 0 ∷ 7 ∷ 0 ∷ 0 ∷ 0 ∷ 0 ∷ 0 ∷ 0 ∷ 7 ∷ []
 

@@ -39,7 +39,8 @@ IsRight-others first others octets right place within =
     (le-ltb (width + place) width (omega arith)))
     ∙ right (width + place) (omega arith)
 
--- An item at the front spells a lawful instruction of this kind, whose octets are those of the item.
+-- An item at the front spells a lawful instruction of this kind, whose octets are those of the
+-- item.
 pub record Reads (kind : RequestKind) (octets : List ℕ) : Type 0 where
   pub asked : kind_asked (kind.spelled octets) ≡ (kind.service, kind.subtype)
   pub lone : is_alone (kind.spelled octets) ≡ not kind.is_list

@@ -13,7 +13,8 @@ use Rattle.pst_model.specs.declared.verdicts.Verdict.TheVariants.{Accepted, Refu
 abbrev request : List ℕ
 request = 0x18 ∷ 0x0a ∷ 0xc0 ∷ 0x00 ∷ []
 
--- the report with sequence count 0 at moment 7, and the one with the greatest count at the moment 0x010203040506
+-- the report with sequence count 0 at moment 7, and the one with the greatest count at the moment
+-- 0x010203040506
 abbrev first : Verdict → List ℕ
 first verdict = report_packet 0 7 (verdict_report request verdict)
 
@@ -96,7 +97,8 @@ status : report_packet 1 0x20 (status_report (storing ∷ []))
     ≡ headers 1 0x12 15 19 0x20 ++ 0x01 ∷ 0x00 ∷ 0x01 ∷ 0x01 ∷ 0x01 ∷ 0x00 ∷ []
 status = refl
 
--- store 1 is circular, of 256 pages, on channel 2, and store 2 bounded, of 65,536 pages, on channel 7
+-- store 1 is circular, of 256 pages, on channel 2, and store 2 bounded, of 65,536 pages, on channel
+-- 7
 abbrev circular : ConfigRow
 circular = record { store = 1; kind = Circular; size = 256; channel = 2 }
 

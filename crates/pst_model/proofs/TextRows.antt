@@ -70,7 +70,8 @@ second_bad : first_bad (2 ^ 40) (codes "G 000000000011\nG 12\nG 000000000013\n")
 unfolding hex_on_literals
 second_bad = refl
 
--- lines of no known form: a small letter, an empty line, a comment, a blank too many, an odd digit, no digit, a carriage return
+-- lines of no known form: a small letter, an empty line, a comment, a blank too many, an odd digit,
+-- no digit, a carriage return
 small_letter : first_bad (2 ^ 40) (codes "a 000000000010 00\n") ≡ Some (1, Form)
 small_letter = refl
 

@@ -1,4 +1,5 @@
--- What a request does to the table, and the reports that answer it (ECSS-E-ST-70-41C, 6.1 and 6.15).
+-- What a request does to the table, and the reports that answer it (ECSS-E-ST-70-41C, 6.1 and
+-- 6.15).
 use Rattle.std.specs.Prelude.{ℕ, ◌+◌, ◌/◌, ◌%◌, ◌==◌, ◌&&◌, Bool, true, false, not, if◌then◌else◌, List, [], ◌∷◌, ◌++◌, length, map, drop, Option, Some, None, Result, Ok, Err}
 use Rattle.std.specs.List.{list_any}
 use Rattle.space_packet.specs.Packet.{apid_of}
@@ -38,13 +39,14 @@ abbrev pub refused_as : Option TcFault → Option RequestFault → Option Verdic
 refused_as (Some fault) behind = Some (header_refusal fault)
 refused_as None behind = refused_by behind
 
--- Kinds of request of service 15 that are known and not carried out yet: they are answered as of an unknown
--- subtype, before their data is judged.
+-- Kinds of request of service 15 that are known and not carried out yet: they are answered as of an
+-- unknown subtype, before their data is judged.
 abbrev pub pending_subtypes : List ℕ
 pending_subtypes = 9 ∷ 11 ∷ 14 ∷ 17 ∷ 20 ∷ 21 ∷ 24 ∷ 25 ∷ 26 ∷ 27 ∷ 28 ∷ []
 
 abbrev pub is_pending : (service subtype : ℕ) → Bool
-is_pending service subtype = service == 15 && list_any (λ pending. pending == subtype) pending_subtypes
+is_pending service subtype =
+    service == 15 && list_any (λ pending. pending == subtype) pending_subtypes
 
 -- whether an instruction is of a kind that is carried out
 abbrev pub is_carried : Instruction → Bool
@@ -53,20 +55,23 @@ is_carried item = not (is_pending (kind_asked item).0 (kind_asked item).1)
 -- the first fault of a request, where the kinds that are not carried out yet count as unknown
 abbrev pub fault_of_request : (service subtype : ℕ) → List ℕ → Option RequestFault
 fault_of_request service subtype body =
-    if is_pending service subtype then Some (UnknownSubtype subtype) else request_fault_of service subtype body
+    if is_pending service subtype then Some (UnknownSubtype subtype)
+    else request_fault_of service subtype body
 
 -- what stands behind both headers of a telecommand
 abbrev pub data_in : List ℕ → List ℕ
 data_in packet = drop 11 packet
 
--- the first judgement that refuses a request: its APID, its header, its service, its subtype, its data
+-- the first judgement that refuses a request: its APID, its header, its service, its subtype, its
+-- data
 abbrev pub refusal_of : List ℕ → Option Verdict
 refusal_of packet =
     if not (apid_of packet == 10) then Some (Refused 1 (apid_of packet))
-    else refused_as (tc_fault_of packet) (fault_of_request (service_of packet) (subtype_of packet) (data_in packet))
+    else refused_as (tc_fault_of packet) (fault_of_request (service_of packet) (subtype_of packet)
+    (data_in packet))
 
--- Instructions, one behind another: the table behind all that took effect, and for each that failed its
--- number, from 1, and its code.
+-- Instructions, one behind another: the table behind all that took effect, and for each that failed
+-- its number, from 1, and its code.
 pub record Carried : Type 0 where
   pub table : Table
   pub failures : List (ℕ × ℕ)
@@ -81,7 +86,8 @@ carried_by number table (Err code) behind = failed_first (number, code) (behind 
 
 abbrev pub carry_out_from : (number : ℕ) → List Instruction → Table → Carried
 carry_out_from number [] table = record { table = table; failures = [] }
-carry_out_from number (item ∷ items) table = carried_by number table (instruct item table) (carry_out_from (number + 1) items)
+carry_out_from number (item ∷ items) table =
+    carried_by number table (instruct item table) (carry_out_from (number + 1) items)
 
 abbrev pub carry_out : List Instruction → Table → Carried
 carry_out items table = carry_out_from 1 items table
@@ -112,20 +118,27 @@ abbrev pub completed : (acks : ℕ) → List (ℕ × ℕ) → List Verdict
 completed acks [] = if_asked (asks_completion acks) Completed
 completed acks (failure ∷ failures) = CompletionFailed 23 (length (failure ∷ failures)) ∷ []
 
--- The verdicts on a request that is not refused, in their order: [1,1] where asked, [1,4] for each failed
--- instruction, [1,3] where asked and none failed; and then, behind the content report, [1,8] where some failed,
--- else [1,7] where asked.
+-- The verdicts on a request that is not refused, in their order: [1,1] where asked, [1,4] for each
+-- failed instruction, [1,3] where asked and none failed; and then, behind the content report, [1,8]
+-- where some failed, else [1,7] where asked.
 abbrev pub verdicts_before : (acks : ℕ) → List (ℕ × ℕ) → List Verdict
-verdicts_before acks failures = if_asked (asks_acceptance acks) Accepted ++ map failed_start failures ++ started acks failures
+verdicts_before acks failures =
+    if_asked (asks_acceptance acks) Accepted ++ map failed_start failures ++ started acks failures
 
 -- a report as an output, with this sequence count
 abbrev pub reply : (number moment count : ℕ) → Report → Output
-reply number moment count report = record { command = number; kind = Reply; channel = 0; packet = report_packet count moment report }
+reply number moment count report = record {
+  command = number;
+  kind = Reply;
+  channel = 0;
+  packet = report_packet count moment report;
+}
 
 -- Reports as outputs: each has the count of those before it, modulo 16,384.
 abbrev pub replies_from : (number moment count : ℕ) → List Report → List Output
 replies_from number moment count [] = []
-replies_from number moment count (report ∷ reports) = reply number moment count report ∷ replies_from number moment (count_behind count 1) reports
+replies_from number moment count (report ∷ reports) =
+    reply number moment count report ∷ replies_from number moment (count_behind count 1) reports
 
 -- the table behind reports, which went out
 abbrev pub replied : (number moment : ℕ) → Table → List Report → Step
@@ -145,15 +158,20 @@ reports_on packet items carried =
     ++ on_request packet (completed (acks_of packet) carried.failures)
 
 -- a request that is not refused
-abbrev pub answer_carried : (number moment : ℕ) → (packet : List ℕ) → List Instruction → Carried → Step
-answer_carried number moment packet items carried = replied number moment carried.table (reports_on packet items carried)
+abbrev pub answer_carried : (number moment : ℕ) → (packet : List ℕ) → List Instruction → Carried
+    → Step
+answer_carried number moment packet items carried =
+    replied number moment carried.table (reports_on packet items carried)
 
 abbrev pub answer_by : (number moment : ℕ) → (packet : List ℕ) → Table → Option Verdict → Step
-answer_by number moment packet table (Some verdict) = replied number moment table (on_request packet (verdict ∷ []))
+answer_by number moment packet table (Some verdict) =
+    replied number moment table (on_request packet (verdict ∷ []))
 answer_by number moment packet table None =
-    answer_carried number moment packet (items_in (service_of packet) (subtype_of packet) (data_in packet)) (carry_out (items_in (service_of packet) (subtype_of packet) (data_in packet)) table)
+    answer_carried number moment packet
+    (items_in (service_of packet) (subtype_of packet) (data_in packet))
+    (carry_out (items_in (service_of packet) (subtype_of packet) (data_in packet)) table)
 
--- A request: where a judgement refuses it, [1,2] alone answers it. Else its instructions are taken in order,
--- each of which takes effect or fails, and a failed one changes nothing.
+-- A request: where a judgement refuses it, [1,2] alone answers it. Else its instructions are taken
+-- in order, each of which takes effect or fails, and a failed one changes nothing.
 abbrev pub answer : (number moment : ℕ) → (packet : List ℕ) → Table → Step
 answer number moment packet table = answer_by number moment packet table (refusal_of packet)

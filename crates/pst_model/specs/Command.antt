@@ -1,8 +1,8 @@
 -- Commands, as contracts see them.
 use Rattle.std.specs.Prelude.{ℕ, List}
 
--- A packet arrives, a ground request arrives, or the downlink has room for one packet. Moments are numbers
--- of 1/65,536 seconds.
+-- A packet arrives, a ground request arrives, or the downlink has room for one packet. Moments are
+-- numbers of 1/65,536 seconds.
 pub data Command : Type 0 where
   Arrival : (moment : ℕ) (packet : List ℕ) → Command
   Request : (moment : ℕ) (packet : List ℕ) → Command

@@ -1,4 +1,5 @@
--- The content reports, which answer requests that ask what stands (ECSS-E-ST-70-41C, 6.14.3 and 6.15.3).
+-- The content reports, which answer requests that ask what stands (ECSS-E-ST-70-41C, 6.14.3 and
+-- 6.15.3).
 use Rattle.std.specs.Prelude.{ℕ, ◌-◌, is_some, find, List, [], ◌∷◌, length, map, slice_index, Option, Some, None}
 use Rattle.std.specs.List.{flat_map}
 use Rattle.control_defs.specs.declared.instructions.Instruction.{Instruction}
@@ -26,11 +27,21 @@ summary_of store = record {
 
 -- what the status report says of a store
 abbrev pub status_of : Store → StatusRow
-status_of store = record { store = store.identifier; storage = store.storage; open_on = store.open_on; range = is_some store.range }
+status_of store = record {
+  store = store.identifier;
+  storage = store.storage;
+  open_on = store.open_on;
+  range = is_some store.range;
+}
 
 -- what the configuration report says of a store
 abbrev pub config_of : Store → ConfigRow
-config_of store = record { store = store.identifier; kind = store.kind; size = store.size; channel = store.channel }
+config_of store = record {
+  store = store.identifier;
+  kind = store.kind;
+  size = store.size;
+  channel = store.channel;
+}
 
 -- the summary of the store that an instruction names, where it stands
 abbrev pub summary_where : Option Store → List SummaryRow
@@ -50,11 +61,15 @@ abbrev pub types_where : Option Store → List Report
 types_where (Some store) = types_report store.identifier store.patterns ∷ []
 types_where None = []
 
--- The content report on instructions of one kind, where there is one: what stands behind all of them.
+-- The content report on instructions of one kind, where there is one: what stands behind all of
+-- them.
 abbrev pub content_report : List Instruction → Table → List Report
 content_report (ForwardReport ∷ items) table = forward_report table.forward ∷ []
-content_report (ReportTypes identifier ∷ items) table = types_where (find (is_named identifier) table.stores)
-content_report (Summary identifier ∷ items) table = summary_by (flat_map (summary_asked table.stores) (Summary identifier ∷ items))
+content_report (ReportTypes identifier ∷ items) table =
+    types_where (find (is_named identifier) table.stores)
+content_report (Summary identifier ∷ items) table =
+    summary_by (flat_map (summary_asked table.stores) (Summary identifier ∷ items))
 content_report (Status ∷ items) table = status_report (map status_of table.stores) ∷ []
-content_report (Configuration ∷ items) table = configuration_report (map config_of table.stores) ∷ []
+content_report (Configuration ∷ items) table =
+    configuration_report (map config_of table.stores) ∷ []
 content_report _ table = []

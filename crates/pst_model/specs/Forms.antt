@@ -59,7 +59,8 @@ abbrev pub packet_in : List ℕ → Result (List ℕ) LineFault
 packet_in hex = if nat_lt (length hex) 2 then Err Form else decoded_packet (decode_of hex)
 
 -- the command that a moment and a packet make, or the fault of the packet
-abbrev pub command_by : (ℕ → List ℕ → Command) → ℕ → Result (List ℕ) LineFault → Result Command LineFault
+abbrev pub command_by : (ℕ → List ℕ → Command) → ℕ → Result (List ℕ) LineFault
+    → Result Command LineFault
 command_by make moment (Ok octets) = Ok (make moment octets)
 command_by make moment (Err why) = Err why
 
@@ -71,7 +72,8 @@ abbrev pub grant_in : Option ℕ → Result Command LineFault
 grant_in (Some moment) = Ok (Grant moment)
 grant_in None = Err Form
 
--- whether a line has a letter with a space behind it in front, and whether one stands behind 12 digits too
+-- whether a line has a letter with a space behind it in front, and whether one stands behind 12
+-- digits too
 abbrev pub begins_with : ℕ → List ℕ → Bool
 begins_with letter line = (slice_index line 0 == letter) && (slice_index line 1 == 32)
 
@@ -82,8 +84,8 @@ has_places letter line = begins_with letter line && (slice_index line 14 == 32)
 abbrev pub packet_line : (ℕ → List ℕ → Command) → List ℕ → Result Command LineFault
 packet_line make line = command_in make (moment_in (take 12 (drop 2 line))) (drop 15 line)
 
--- What a line without its LF says: the command of which it is a written form, the fault of its packet
--- where it has the form of an arrival or a request, and else that it has no known form.
+-- What a line without its LF says: the command of which it is a written form, the fault of its
+-- packet where it has the form of an arrival or a request, and else that it has no known form.
 abbrev pub reading_of : List ℕ → Result Command LineFault
 reading_of line =
     if has_places 65 line then packet_line Arrival line

@@ -9,7 +9,8 @@ use Rattle.control_defs.specs.Instructions.{kind_octet}
 use Rattle.control_defs.specs.PatternOctets.{pattern_octets}
 use Rattle.control_defs.specs.Patterns.{HasPatternOctets}
 
--- A part of an item: a number in so many octets, one octet, a pattern, or what a store does when it is full.
+-- A part of an item: a number in so many octets, one octet, a pattern, or what a store does when it
+-- is full.
 pub data Part : Type 0 where
   Number : (width number : ℕ) → Part
   Octet : (octet : ℕ) → Part
@@ -38,8 +39,8 @@ abbrev pub octets_behind : (front : List ℕ) → List Part → List ℕ
 octets_behind front [] = front
 octets_behind front (part ∷ parts) = octets_behind (front ++ part_octets part) parts
 
--- How a request asks for an instruction: its service type and message subtype, whether it asks for one
--- instruction alone or for a list, and the parts of an item.
+-- How a request asks for an instruction: its service type and message subtype, whether it asks for
+-- one instruction alone or for a list, and the parts of an item.
 pub record Spelling : Type 0 where
   pub service : ℕ
   pub subtype : ℕ
@@ -47,10 +48,20 @@ pub record Spelling : Type 0 where
   pub parts : List Part
 
 abbrev pub listed_as : (service subtype : ℕ) → List Part → Spelling
-listed_as service subtype parts = record { service = service; subtype = subtype; lone = false; parts = parts }
+listed_as service subtype parts = record {
+  service = service;
+  subtype = subtype;
+  lone = false;
+  parts = parts;
+}
 
 abbrev pub alone_as : (service subtype : ℕ) → List Part → Spelling
-alone_as service subtype parts = record { service = service; subtype = subtype; lone = true; parts = parts }
+alone_as service subtype parts = record {
+  service = service;
+  subtype = subtype;
+  lone = true;
+  parts = parts;
+}
 
 -- each kind of instruction
 abbrev pub spelling_of : Instruction → Spelling
@@ -62,7 +73,8 @@ spelling_of (Disable store) = listed_as 15 2 (Number 2 store ∷ [])
 spelling_of (AddTypes store pattern) = listed_as 15 3 (Number 2 store ∷ OfPattern pattern ∷ [])
 spelling_of (DeleteTypes store pattern) = listed_as 15 4 (Number 2 store ∷ OfPattern pattern ∷ [])
 spelling_of (ReportTypes store) = alone_as 15 5 (Number 2 store ∷ [])
-spelling_of (StartRange store t1 t2) = listed_as 15 9 (Number 2 store ∷ Number 6 t1 ∷ Number 6 t2 ∷ [])
+spelling_of (StartRange store t1 t2) =
+    listed_as 15 9 (Number 2 store ∷ Number 6 t1 ∷ Number 6 t2 ∷ [])
 spelling_of (DeleteUpTo store t) = listed_as 15 11 (Number 2 store ∷ Number 6 t ∷ [])
 spelling_of (Summary store) = listed_as 15 12 (Number 2 store ∷ [])
 spelling_of (OpenFrom store t) = listed_as 15 14 (Number 2 store ∷ Number 6 t ∷ [])
@@ -70,10 +82,12 @@ spelling_of (Resume store) = listed_as 15 15 (Number 2 store ∷ [])
 spelling_of (Suspend store) = listed_as 15 16 (Number 2 store ∷ [])
 spelling_of (Abort store) = listed_as 15 17 (Number 2 store ∷ [])
 spelling_of Status = alone_as 15 18 []
-spelling_of (Create store kind size channel) = listed_as 15 20 (Number 2 store ∷ OfKind kind ∷ Number 4 size ∷ Octet channel ∷ [])
+spelling_of (Create store kind size channel) =
+    listed_as 15 20 (Number 2 store ∷ OfKind kind ∷ Number 4 size ∷ Octet channel ∷ [])
 spelling_of (Remove store) = listed_as 15 21 (Number 2 store ∷ [])
 spelling_of Configuration = alone_as 15 22 []
-spelling_of (Copy from to t1 t2) = listed_as 15 24 (Number 2 from ∷ Number 2 to ∷ Number 6 t1 ∷ Number 6 t2 ∷ [])
+spelling_of (Copy from to t1 t2) =
+    listed_as 15 24 (Number 2 from ∷ Number 2 to ∷ Number 6 t1 ∷ Number 6 t2 ∷ [])
 spelling_of (Resize store size) = listed_as 15 25 (Number 2 store ∷ Number 4 size ∷ [])
 spelling_of (ToCircular store) = listed_as 15 26 (Number 2 store ∷ [])
 spelling_of (ToBounded store) = listed_as 15 27 (Number 2 store ∷ [])

@@ -25,13 +25,13 @@ pattern_in octets =
     else if form_in octets == 2 then Service (apid_in octets) (service_in octets)
     else Kind (apid_in octets) (service_in octets) (subtype_in octets)
 
--- how many octets a pattern of a form uses: those of the form, the APID, the service type and the message
--- subtype, as far as it has them. The others stand behind them.
+-- how many octets a pattern of a form uses: those of the form, the APID, the service type and the
+-- message subtype, as far as it has them. The others stand behind them.
 abbrev pub used_by : (form : ℕ) → ℕ
 used_by form = if form == 0 then 1 else if form == 1 then 3 else if form == 2 then 4 else 5
 
--- Whether the octet at this place of a pattern is wrong: a form above 3, the first of an APID above 2047, or
--- one other than 0 that the form does not use.
+-- Whether the octet at this place of a pattern is wrong: a form above 3, the first of an APID above
+-- 2047, or one other than 0 that the form does not use.
 abbrev pub is_wrong_in_pattern : List ℕ → (place : ℕ) → Bool
 is_wrong_in_pattern octets place =
     (place == 0 && nat_lt 3 (form_in octets))

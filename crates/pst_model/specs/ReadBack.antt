@@ -6,9 +6,11 @@ use Rattle.pus_header.specs.Commands.{IsCommandPacket, acks_of, service_of, sour
 use Rattle.pst_model.specs.Answers.{data_in}
 use Rattle.pst_model.specs.Requests.{data_of, items_in, request_fault_of}
 
--- Octets that are a telecommand of APID 10 with this sequence count, these acknowledgement flags, this
--- service, this subtype and this source, whose data has no fault and spells these instructions.
-pub record ReadsBack (octets : List ℕ) (count acks service subtype source : ℕ) (items : List Instruction) : Type 0 where
+-- Octets that are a telecommand of APID 10 with this sequence count, these acknowledgement flags,
+-- this service, this subtype and this source, whose data has no fault and spells these
+-- instructions.
+pub record ReadsBack (octets : List ℕ) (count acks service subtype source : ℕ)
+    (items : List Instruction) : Type 0 where
   pub packet : IsPacket octets
   pub command : IsCommandPacket octets
   pub of_apid : apid_of octets ≡ 10

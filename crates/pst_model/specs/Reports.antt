@@ -48,9 +48,14 @@ failure_octets (CompletionFailed code detail) = code ∷ big_bytes 2 detail
 
 -- the report of a verdict on the request with this identifier, its four octets
 abbrev pub verdict_report : (request : List ℕ) → Verdict → Report
-verdict_report request verdict = record { service = 1; subtype = verdict_subtype verdict; content = request ++ failure_octets verdict }
+verdict_report request verdict = record {
+  service = 1;
+  subtype = verdict_subtype verdict;
+  content = request ++ failure_octets verdict;
+}
 
--- The event report [5,2]: a store refused a packet that needs so many pages, of which so many were free.
+-- The event report [5,2]: a store refused a packet that needs so many pages, of which so many were
+-- free.
 abbrev pub event_report : (store need free : ℕ) → Report
 event_report store need free = record {
   service = 5;
@@ -64,7 +69,11 @@ listed_octets octets xs = length xs ∷ flat_map octets xs
 
 -- a report that has things in a list
 abbrev pub listed_report : {X : Type 0} → (service subtype : ℕ) → (X → List ℕ) → List X → Report
-listed_report service subtype octets xs = record { service = service; subtype = subtype; content = listed_octets octets xs }
+listed_report service subtype octets xs = record {
+  service = service;
+  subtype = subtype;
+  content = listed_octets octets xs;
+}
 
 -- [14,4]: the patterns of packets that are forwarded
 abbrev pub forward_report : List Pattern → Report
@@ -72,12 +81,17 @@ forward_report patterns = listed_report 14 4 pattern_octets patterns
 
 -- [15,6]: the patterns of packets that a store takes
 abbrev pub types_report : (store : ℕ) → List Pattern → Report
-types_report store patterns = record { service = 15; subtype = 6; content = big_bytes 2 store ++ listed_octets pattern_octets patterns }
+types_report store patterns = record {
+  service = 15;
+  subtype = 6;
+  content = big_bytes 2 store ++ listed_octets pattern_octets patterns;
+}
 
 -- [15,13]: what stores have
 abbrev pub summary_octets : SummaryRow → List ℕ
 summary_octets row =
-    big_bytes 2 row.store ++ big_bytes 4 row.packets ++ big_bytes 4 row.pages ++ big_bytes 6 row.oldest ++ big_bytes 6 row.newest ++ big_bytes 4 row.ahead
+    big_bytes 2 row.store ++ big_bytes 4 row.packets ++ big_bytes 4 row.pages
+    ++ big_bytes 6 row.oldest ++ big_bytes 6 row.newest ++ big_bytes 4 row.ahead
 
 -- the times of a store have six octets each
 pub record HasTimes (row : SummaryRow) : Type 0 where
@@ -89,14 +103,17 @@ summary_report rows = listed_report 15 13 summary_octets rows
 
 -- [15,19]: what is on in stores
 abbrev pub status_octets : StatusRow → List ℕ
-status_octets row = big_bytes 2 row.store ++ from_bool row.storage ∷ from_bool row.open_on ∷ from_bool row.range ∷ []
+status_octets row =
+    big_bytes 2 row.store
+    ++ from_bool row.storage ∷ from_bool row.open_on ∷ from_bool row.range ∷ []
 
 abbrev pub status_report : List StatusRow → Report
 status_report rows = listed_report 15 19 status_octets rows
 
 -- [15,23]: how stores are made
 abbrev pub config_octets : ConfigRow → List ℕ
-config_octets row = big_bytes 2 row.store ++ kind_octet row.kind ∷ [] ++ big_bytes 4 row.size ++ row.channel ∷ []
+config_octets row =
+    big_bytes 2 row.store ++ kind_octet row.kind ∷ [] ++ big_bytes 4 row.size ++ row.channel ∷ []
 
 abbrev pub configuration_report : List ConfigRow → Report
 configuration_report rows = listed_report 15 23 config_octets rows

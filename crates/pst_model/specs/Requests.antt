@@ -1,4 +1,5 @@
--- Requests as octets: what stands behind the headers of a telecommand, and the instructions that it spells.
+-- Requests as octets: what stands behind the headers of a telecommand, and the instructions that it
+-- spells.
 use Rattle.std.specs.Prelude.{◌≡◌, ◌≤◌, ℕ, zero, suc, ◌+◌, ◌*◌, ◌-◌, ◌/◌, ◌%◌, ◌==◌, ◌&&◌, ◌||◌, nat_le, min, Bool, true, false, not, if◌then◌else◌, All, List, [], ◌∷◌, ◌++◌, length, drop, slice_index, Option, Some, None}
 use Rattle.octet_fields.specs.Fields.{big_bytes}
 use Rattle.space_packet.specs.declared.header.Primary.{Primary}
@@ -11,8 +12,8 @@ use Rattle.pst_model.specs.Items.{HasOctets, is_alone, item_of, kind_asked}
 use Rattle.pst_model.specs.Layouts.{RequestKind, is_wrong_in, kind_in, width_of}
 use Rattle.pst_model.specs.Least.{first_below}
 
--- The data of a request, as a relation: one octet with the number of items, and the items, which are
--- instructions of one kind. An instruction of a kind that stands alone has no number in front.
+-- The data of a request, as a relation: one octet with the number of items, and the items, which
+-- are instructions of one kind. An instruction of a kind that stands alone has no number in front.
 
 abbrev pub items_octets : List Instruction → List ℕ
 items_octets [] = []
@@ -52,7 +53,8 @@ pub record AreAsked (service subtype : ℕ) (items : List Instruction) : Type 0 
   pub few : length items ≤ most_of items
 
 -- The data of a request of this service and subtype spells these instructions.
-pub record SpellsRequest (service subtype : ℕ) (body : List ℕ) (items : List Instruction) : Type 0 where
+pub record SpellsRequest (service subtype : ℕ) (body : List ℕ)
+    (items : List Instruction) : Type 0 where
   pub asked : AreAsked service subtype items
   pub octets : body ≡ data_of items
 
@@ -85,14 +87,16 @@ place_within kind place = (place - front_of kind) % width_of kind.fields
 abbrev pub is_wrong_at : RequestKind → List ℕ → (place : ℕ) → Bool
 is_wrong_at kind body place =
     nat_le (front_of kind) place
-    && is_wrong_in kind.fields (drop (place_of kind (number_at kind place)) body) (place_within kind place)
+    && is_wrong_in kind.fields (drop (place_of kind (number_at kind place)) body)
+    (place_within kind place)
 
--- The place where data is malformed: that of a count that is missing or not from 1 to 32, else that of the
--- first octet that is missing or too many, else that of the first octet that is wrong.
+-- The place where data is malformed: that of a count that is missing or not from 1 to 32, else that
+-- of the first octet that is missing or too many, else that of the first octet that is wrong.
 abbrev pub malformed_at : RequestKind → List ℕ → Option ℕ
 malformed_at kind body =
     if not (nat_le 1 (count_in kind body) && nat_le (count_in kind body) 32) then Some 0
-    else if not (length body == length_asked kind body) then Some (min (length body) (length_asked kind body))
+    else if not (length body == length_asked kind body)
+    then Some (min (length body) (length_asked kind body))
     else first_below (is_wrong_at kind body) (length body)
 
 abbrev pub malformed_by : Option ℕ → Option RequestFault
@@ -112,7 +116,8 @@ request_fault_of service subtype body =
 -- the instructions of so many items
 abbrev pub items_from : RequestKind → (count : ℕ) → List ℕ → List Instruction
 items_from kind zero octets = []
-items_from kind (suc count) octets = kind.spelled octets ∷ items_from kind count (drop (width_of kind.fields) octets)
+items_from kind (suc count) octets =
+    kind.spelled octets ∷ items_from kind count (drop (width_of kind.fields) octets)
 
 -- the instructions that the data of a request spells, where it has no fault
 abbrev pub items_by : List ℕ → Option RequestKind → List Instruction
@@ -122,15 +127,24 @@ items_by body None = []
 abbrev pub items_in : (service subtype : ℕ) → List ℕ → List Instruction
 items_in service subtype body = items_by body (kind_in service subtype)
 
--- A request as a packet: a telecommand of APID 10, unsegmented, with these acknowledgement flags, this
--- source and the data of the instructions (CCSDS 133.0-B, 4.1.3; ECSS-E-ST-70-41C, 7.4.4).
+-- A request as a packet: a telecommand of APID 10, unsegmented, with these acknowledgement flags,
+-- this source and the data of the instructions (CCSDS 133.0-B, 4.1.3; ECSS-E-ST-70-41C, 7.4.4).
 
 abbrev pub request_primary : (count size : ℕ) → Primary
-request_primary count size = record { command = true; secondary = true; apid = 10; flags = 3; count = count; length = 5 + size - 1 }
+request_primary count size = record {
+  command = true;
+  secondary = true;
+  apid = 10;
+  flags = 3;
+  count = count;
+  length = 5 + size - 1;
+}
 
 abbrev pub request_secondary : (acks service subtype source : ℕ) → List ℕ
-request_secondary acks service subtype source = (2 * 16 + acks) ∷ service ∷ subtype ∷ [] ++ big_bytes 2 source
+request_secondary acks service subtype source =
+    (2 * 16 + acks) ∷ service ∷ subtype ∷ [] ++ big_bytes 2 source
 
 abbrev pub request_packet : (count acks service subtype source : ℕ) → List Instruction → List ℕ
 request_packet count acks service subtype source items =
-    header_of (request_primary count (length (data_of items))) ++ request_secondary acks service subtype source ++ data_of items
+    header_of (request_primary count (length (data_of items)))
+    ++ request_secondary acks service subtype source ++ data_of items

@@ -9,7 +9,8 @@ use Rattle.pus_header.specs.Keys.{key_of}
 use Rattle.pst_model.specs.Least.{least}
 use Rattle.pst_model.specs.Table.{Store, Stored, Table, content_of, drop_front}
 
--- What goes out: a forwarded packet, a report or a retrieved packet, with the number of its command.
+-- What goes out: a forwarded packet, a report or a retrieved packet, with the number of its
+-- command.
 pub data OutputKind : Type 0 where
   Forwarded : OutputKind
   Reply : OutputKind
@@ -26,7 +27,8 @@ pub record Step : Type 0 where
   pub table : Table
   pub outputs : List Output
 
--- What a put gives: the store with the packet, or a refusal with the pages that it needs and those free.
+-- What a put gives: the store with the packet, or a refusal with the pages that it needs and those
+-- free.
 pub data Put : Type 0 where
   Taken : Store → Put
   Refused : (need free : ℕ) → Put
@@ -40,7 +42,8 @@ free_of store = store.size - content_of store
 
 -- a packet that no circular store of this size can hold, or for which a bounded store has no room
 abbrev pub is_refused : Store → (need : ℕ) → Bool
-is_refused store need = nat_lt store.size need || (is_bounded store.kind && nat_lt (free_of store) need)
+is_refused store need =
+    nat_lt store.size need || (is_bounded store.kind && nat_lt (free_of store) need)
 
 -- whether the store without its first packets has room for so many pages
 abbrev pub has_room : Store → (need count : ℕ) → Bool
@@ -54,11 +57,13 @@ to_drop store need = least (has_room store need) (length store.packets)
 abbrev pub with_last : Store → Stored → Store
 with_last store stored = record store { packets = store.packets ++ stored ∷ []; told = false }
 
--- Putting a packet into a store: it goes last, behind the fewest packets that have to leave the front.
+-- Putting a packet into a store: it goes last, behind the fewest packets that have to leave the
+-- front.
 abbrev pub put : Store → Stored → Put
 put store stored =
-    if is_refused store (charge_of (length stored.octets)) then Refused (charge_of (length stored.octets)) (free_of store)
-    else Taken (with_last (drop_front store (to_drop store (charge_of (length stored.octets)))) stored)
+    let need = charge_of (length stored.octets) in
+    if is_refused store need then Refused need (free_of store)
+    else Taken (with_last (drop_front store (to_drop store need)) stored)
 
 abbrev pub behind_put : Store → Put → Store
 behind_put store (Taken next) = next
@@ -66,17 +71,25 @@ behind_put store (Refused need free) = record store { told = true }
 
 -- a store to which an arriving packet is offered
 abbrev pub offered : Stored → Store → Store
-offered stored store = if store.storage && any_covers store.patterns (key_of stored.octets) then behind_put store (put store stored) else store
+offered stored store =
+    if store.storage && any_covers store.patterns (key_of stored.octets)
+    then behind_put store (put store stored) else store
 
--- An arrival: the storage time rises to the moment, and a packet that is not idle is forwarded where a
--- forward pattern covers its key, and offered to each store.
+-- An arrival: the storage time rises to the moment, and a packet that is not idle is forwarded
+-- where a forward pattern covers its key, and offered to each store.
 abbrev pub arrive : (number moment : ℕ) → List ℕ → Table → Step
 arrive number moment packet table =
     let now = max table.now moment in
     if apid_of packet == 2047 then record { table = record table { now = now }; outputs = [] }
     else record {
-      table = record table { now = now; stores = map (offered (record { time = now; octets = packet })) table.stores };
-      outputs = if any_covers table.forward (key_of packet) then record { command = number; kind = Forwarded; channel = 0; packet = packet } ∷ [] else [];
+      table = record table {
+        now = now;
+        stores = map (offered (record { time = now; octets = packet })) table.stores;
+      };
+      outputs =
+          if any_covers table.forward (key_of packet)
+          then record { command = number; kind = Forwarded; channel = 0; packet = packet } ∷ []
+          else [];
     }
 
 -- the packet at a position of a store
@@ -102,26 +115,37 @@ has_ahead store = store.open_on && nat_lt store.behind (length store.packets)
 -- the first store that passes the test, changed
 abbrev pub at_first : (Store → Bool) → (Store → Store) → List Store → List Store
 at_first test change [] = []
-at_first test change (store ∷ stores) = if test store then change store ∷ stores else store ∷ at_first test change stores
+at_first test change (store ∷ stores) =
+    if test store then change store ∷ stores else store ∷ at_first test change stores
 
 abbrev pub retrieved : (number : ℕ) → Store → (position : ℕ) → List Output
-retrieved number store position = record { command = number; kind = Retrieved; channel = store.channel; packet = packet_at store position } ∷ []
+retrieved number store position =
+    record {
+      command = number;
+      kind = Retrieved;
+      channel = store.channel;
+      packet = packet_at store position;
+    } ∷ []
 
 abbrev pub grant_open : (number : ℕ) → Table → Option Store → Step
 grant_open number table None = record { table = table; outputs = [] }
 grant_open number table (Some store) = record {
-  table = record table { stores = at_first has_ahead (λ store. record store { behind = store.behind + 1 }) table.stores };
+  table = record table {
+    stores = at_first has_ahead (λ store. record store { behind = store.behind + 1 }) table.stores;
+  };
   outputs = retrieved number store store.behind;
 }
 
 abbrev pub grant_range : (number : ℕ) → Table → Option Store → Step
 grant_range number table None = grant_open number table (find has_ahead table.stores)
 grant_range number table (Some store) = record {
-  table = record table { stores = at_first has_range (λ store. record store { range = range_sent store.range }) table.stores };
+  table = record table {
+    stores = at_first has_range (λ store. record store { range = range_sent store.range }) table.stores;
+  };
   outputs = retrieved number store (range_next store.range);
 }
 
--- A grant: the first store with a range sends the packet at its front; where there is none, the first
--- store whose open retrieval has packets ahead sends the first of them.
+-- A grant: the first store with a range sends the packet at its front; where there is none, the
+-- first store whose open retrieval has packets ahead sends the first of them.
 abbrev pub grant : (number : ℕ) → Table → Step
 grant number table = grant_range number table (find has_range table.stores)

@@ -17,7 +17,9 @@ behind_outputs outputs behind = record { table = behind.table; outputs = outputs
 -- the run of commands, the first of which has this number
 abbrev pub run_from : (number : ℕ) → Table → List Command → Step
 run_from number table [] = record { table = table; outputs = [] }
-run_from number table (command ∷ commands) = behind_outputs (step number command table).outputs (run_from (number + 1) (step number command table).table commands)
+run_from number table (command ∷ commands) =
+    behind_outputs (step number command table).outputs
+    (run_from (number + 1) (step number command table).table commands)
 
 -- The table after the commands, which are counted from 1, and all that goes out.
 abbrev pub run : Table → List Command → Step

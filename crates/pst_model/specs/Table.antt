@@ -53,11 +53,16 @@ content_of store = content_in store.packets
 -- a range where this many packets left the front: none where nothing of it is left
 abbrev pub range_behind : ℕ → Option (ℕ × ℕ) → Option (ℕ × ℕ)
 range_behind count None = None
-range_behind count (Some (next, end)) = if nat_lt (next - count) (end - count) then Some (next - count, end - count) else None
+range_behind count (Some (next, end)) =
+    if nat_lt (next - count) (end - count) then Some (next - count, end - count) else None
 
 -- the store without its first packets
 abbrev pub drop_front : Store → ℕ → Store
-drop_front store count = record store { packets = drop count store.packets; behind = store.behind - count; range = range_behind count store.range }
+drop_front store count = record store {
+  packets = drop count store.packets;
+  behind = store.behind - count;
+  range = range_behind count store.range;
+}
 
 -- The store of a table after a format: it takes every packet, and its open retrieval is on.
 abbrev pub boot_store : Store

@@ -22,7 +22,8 @@ pub enum RequestFault {
     UnknownService(u8),
     /// A message subtype that is not known.
     UnknownSubtype(u8),
-    /// The application data is malformed at this octet: a list has no count from 1 to 32 (`at` is 0), or
-    /// the first octet that is missing or too many stands there, or the first that its field cannot have.
+    /// The application data is malformed at this octet: a list has no count from 1 to 32 (`at` is
+    /// 0), or the first octet that is missing or too many stands there, or the first that its field
+    /// cannot have.
     Malformed { at: u16 },
 }

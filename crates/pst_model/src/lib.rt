@@ -1,6 +1,6 @@
-//! What the packet store means (ECSS-E-ST-70-41C, 6.14 and 6.15): the session text, the table of packet
-//! stores, requests and reports, as definitions over plain lists and numbers, with their laws. Nothing
-//! here computes for the program; the crates above cite it.
+//! What the packet store means (ECSS-E-ST-70-41C, 6.14 and 6.15): the session text, the table of
+//! packet stores, requests and reports, as definitions over plain lists and numbers, with their
+//! laws. Nothing here computes for the program; the crates above cite it.
 #![tactic(auto)]
 
 mod faults;

@@ -2,8 +2,8 @@
 
 use control_defs::StoreKind;
 
-/// A store in the summary report (ECSS-E-ST-70-41C, 6.15.3.8). Sizes are in pages of 256 octets, times in
-/// 1/65,536 s below 2^48, and 0 where the store is empty.
+/// A store in the summary report (ECSS-E-ST-70-41C, 6.15.3.8). Sizes are in pages of 256 octets,
+/// times in 1/65,536 s below 2^48, and 0 where the store is empty.
 #[derive(Clone, Copy, Debug, Default, PartialEq, Eq)]
 pub struct SummaryRow {
     /// Its identifier.

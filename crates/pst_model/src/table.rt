@@ -16,20 +16,24 @@ ghost use Rattle.pst_model.specs.Table.{Store, Table};
 /// others, whose numbers go on.
 pub fn runs_in_turn()
     ensures table { (number : ℕ) (table : Table) (a b : List Command)
-        → (run_from number table (a ++ b)).table ≡ (run_from (number + length a) (run_from number table a).table b).table }
+        → (run_from number table (a ++ b)).table
+        ≡ (run_from (number + length a) (run_from number table a).table b).table }
     ensures outputs { (number : ℕ) (table : Table) (a b : List Command)
         → (run_from number table (a ++ b)).outputs
-        ≡ (run_from number table a).outputs ++ (run_from (number + length a) (run_from number table a).table b).outputs }
+        ≡ (run_from number table a).outputs
+        ++ (run_from (number + length a) (run_from number table a).table b).outputs }
 {}
 
 /// The fewest packets leave the front of a store behind which there is room for so many pages.
 pub fn fewest_leave()
-    ensures { (store : Store) (need : ℕ) → need ≤ store.size → IsLeast (has_room store need) (to_drop store need) }
+    ensures { (store : Store) (need : ℕ) → need ≤ store.size
+        → IsLeast (has_room store need) (to_drop store need) }
 {}
 
 /// A circular store refuses no packet that its size can hold.
 pub fn circular_stores_refuse_only_larger()
-    ensures { (store : Store) (need : ℕ) → store.kind ≡ Circular → need ≤ store.size → is_refused store need ≡ false }
+    ensures { (store : Store) (need : ℕ) → store.kind ≡ Circular → need ≤ store.size
+        → is_refused store need ≡ false }
 {}
 
 /// No command passes more packets of a store than it has.
@@ -40,12 +44,15 @@ pub fn behind_stays_within()
 
 /// An instruction that fails leaves the table to those behind it as it was.
 pub fn failed_instructions_change_nothing()
-    ensures { (number code : ℕ) (item : Instruction) (items : List Instruction) (table : Table) → instruct item table ≡ Err code
-        → carry_out_from number (item ∷ items) table ≡ failed_first (number, code) (carry_out_from (number + 1) items table) }
+    ensures { (number code : ℕ) (item : Instruction) (items : List Instruction) (table : Table)
+        → instruct item table ≡ Err code
+        → carry_out_from number (item ∷ items) table
+        ≡ failed_first (number, code) (carry_out_from (number + 1) items table) }
 {}
 
 /// Each report raises the count of reports by one, modulo 16,384.
 pub fn reports_are_counted()
     ensures { (number : ℕ) (command : Command) (table : Table) → table.reports < 16384
-        → (step number command table).table.reports ≡ count_behind table.reports (replies_in (step number command table).outputs) }
+        → (step number command table).table.reports
+        ≡ count_behind table.reports (replies_in (step number command table).outputs) }
 {}

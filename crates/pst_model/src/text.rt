@@ -7,10 +7,11 @@ ghost use Rattle.pst_model.specs.Command.{Command};
 ghost use Rattle.pst_model.specs.Forms.{HasPacketForm, Spells, reading_of};
 ghost use Rattle.pst_model.specs.Text.{AreLines, Line, joined, lines_in};
 
-/// A line says the command of which it is a written form, or the fault of its packet where it has the
-/// form of an arrival or of a request.
+/// A line says the command of which it is a written form, or the fault of its packet where it has
+/// the form of an arrival or of a request.
 pub fn written_forms()
-    ensures spelled { (line : List ℕ) (command : Command) → (reading_of line ≡ Ok command) ↔ Spells line command }
+    ensures spelled { (line : List ℕ) (command : Command) → (reading_of line ≡ Ok command)
+        ↔ Spells line command }
     ensures faulty { (line : List ℕ) (fault : PacketFault) → (reading_of line ≡ Err (Packet fault))
         ↔ ((moment : ℕ) × (octets : List ℕ) × (HasPacketForm 65 line moment octets ⊎ HasPacketForm 82 line moment octets) × (fault_of octets ≡ Some fault)) }
 {}

@@ -38,7 +38,8 @@ subtype = refl
 source : source_of request ≡ 5
 source = refl
 
--- telemetry, a telecommand with no secondary header, one with four octets of it, and one of version 1
+-- telemetry, a telecommand with no secondary header, one with four octets of it, and one of version
+-- 1
 not_command : tc_fault_of report ≡ Some NotCommand
 not_command = refl
 

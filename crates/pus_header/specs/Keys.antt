@@ -16,7 +16,9 @@ pub record IsReport (octets : List ℕ) : Type 0 where
 
 -- the same, as a test
 abbrev pub is_report : List ℕ → Bool
-is_report octets = not (is_command octets) && has_secondary octets && nat_le 19 (length octets) && pus_version octets == 2
+is_report octets =
+    not (is_command octets) && has_secondary octets && nat_le 19 (length octets)
+    && pus_version octets == 2
 
 -- the key, with the service and the subtype of a report
 abbrev pub key_of : List ℕ → Key

@@ -1,5 +1,5 @@
--- The head of a report of this program: the primary header of its packet (CCSDS 133.0-B, 4.1.3) and its
--- secondary header (ECSS-E-ST-70-41C, 7.4.3).
+-- The head of a report of this program: the primary header of its packet (CCSDS 133.0-B, 4.1.3) and
+-- its secondary header (ECSS-E-ST-70-41C, 7.4.3).
 use Rattle.std.specs.Prelude.{◌+◌, ◌-◌, ◌*◌, ℕ, true, false, List, [], ◌∷◌, ◌++◌}
 use Rattle.octet_fields.specs.Fields.{big_bytes}
 use Rattle.space_packet.specs.declared.header.Primary.{Primary}
@@ -16,7 +16,8 @@ report_primary count body = record {
   length = 13 + body - 1;
 }
 
--- PUS version 2 with time reference status 0, service, subtype, message type counter, destination, time
+-- PUS version 2 with time reference status 0, service, subtype, message type counter, destination,
+-- time
 abbrev pub report_secondary : (service subtype moment : ℕ) → List ℕ
 report_secondary service subtype moment =
     (2 * 16 + 0) ∷ service ∷ subtype ∷ [] ++ big_bytes 2 0 ++ big_bytes 2 0 ++ big_bytes 6 moment

@@ -21,8 +21,8 @@ pub struct TcView<'a> {
     ghost header: { IsCommandPacket (octets_of packet) },
 }
 
-/// The request identifier of a packet, as reports of service 1 name a request (8.1.2.1): its first four
-/// octets.
+/// The request identifier of a packet, as reports of service 1 name a request (8.1.2.1): its first
+/// four octets.
 pub fn identifier_of(packet: PacketView<'_>) -> [u8; 4]
     ensures { result ≡ identifier_of (octets_of packet.entry) }
 {

@@ -15,8 +15,8 @@ pub fn kind_or_none()
     ensures { (octets : List ℕ) → IsSome (key_of octets).kind ↔ IsReport octets }
 {}
 
-/// With as many octets behind it as it says, the head of a report makes a packet whose key is of APID
-/// 10 and of the report's service and subtype.
+/// With as many octets behind it as it says, the head of a report makes a packet whose key is of
+/// APID 10 and of the report's service and subtype.
 pub fn report_reads_back()
     ensures packet { (count service subtype moment : ℕ) (content : List ℕ) → count < 16384
         → length content ≤ 4077

@@ -20,7 +20,8 @@ pub(crate) fn put_head(head: Head, service: u8, subtype: u8, content: u32, out: 
     requires moment { head.moment < 2 ^ 48 }
     requires content { content ≤ 4077 }
     requires room { 19 ≤ length out.old }
-    ensures { Writes out.old out.new 0 (report_head head.count service subtype head.moment content) }
+    ensures { Writes out.old out.new 0 (report_head head.count service subtype head.moment
+        content) }
 {
     write_tm_head(head.count, service, subtype, head.moment, content, out);
 }

@@ -1,4 +1,5 @@
-// Reports of patterns: those of packets that are forwarded (ECSS-E-ST-70-41C, 6.14) or stored (6.15).
+// Reports of patterns: those of packets that are forwarded (ECSS-E-ST-70-41C, 6.14) or stored
+// (6.15).
 ghost use Rattle.std.specs.Prelude.{◌≡◌, ◌+◌, ◌*◌, ◌<◌, ◌≤◌, ◌^◌, [], ◌∷◌, ◌++◌, length, drop};
 ghost use Rattle.octet_fields.specs.Fields.{Writes};
 ghost use Rattle.space_packet.specs.Packet.{IsPacket};
@@ -40,17 +41,18 @@ impl Row for Pattern {
     ghost sized = { length-pattern_octets };
 }
 
-/// Writes the report of the patterns of packets that are forwarded, at most 64, at the front of `out`,
-/// which has at least 1,024 octets, and answers the report's length: 20 octets and five a pattern. The
-/// report is of service 14 (ECSS-E-ST-70-41C, 6.14); it has the number of patterns in one octet, and
-/// of each its form in one, its APID in two, its service type and its message subtype in one each, 0
-/// where the form does not use them. The rest of `out` stays.
+/// Writes the report of the patterns of packets that are forwarded, at most 64, at the front of
+/// `out`, which has at least 1,024 octets, and answers the report's length: 20 octets and five a
+/// pattern. The report is of service 14 (ECSS-E-ST-70-41C, 6.14); it has the number of patterns in
+/// one octet, and of each its form in one, its APID in two, its service type and its message
+/// subtype in one each, 0 where the form does not use them. The rest of `out` stays.
 pub fn write_forward(head: Head, patterns: &[Pattern], out: &mut [u8]) -> u32
     requires count { head.count < 16384 }
     requires moment { head.moment < 2 ^ 48 }
     requires few { length patterns.now ≤ 64 }
     requires room { 1024 ≤ length out.old }
-    ensures length { result ≡ length (report_packet head.count head.moment (forward_report patterns.now)) }
+    ensures length { result ≡ length (report_packet head.count head.moment
+        (forward_report patterns.now)) }
     ensures report { let packet = report_packet head.count head.moment (forward_report patterns.now)
         in out.new ≡ packet ++ drop (length packet) out.old }
     ensures short { result ≤ 1024 }
@@ -59,20 +61,24 @@ pub fn write_forward(head: Head, patterns: &[Pattern], out: &mut [u8]) -> u32
     write_listed(head, FORWARDING, FORWARD_REPORT, patterns, out)
 }
 
-/// Writes the report of the patterns of packets that a store takes, at most 64, at the front of `out`,
-/// which has at least 1,024 octets, and answers the report's length: 22 octets and five a pattern. The
-/// report is of service 15 (ECSS-E-ST-70-41C, 6.15); it has the store in two octets, and the patterns
-/// as in the report of those of packets that are forwarded. The rest of `out` stays.
+/// Writes the report of the patterns of packets that a store takes, at most 64, at the front of
+/// `out`, which has at least 1,024 octets, and answers the report's length: 22 octets and five a
+/// pattern. The report is of service 15 (ECSS-E-ST-70-41C, 6.15); it has the store in two octets,
+/// and the patterns as in the report of those of packets that are forwarded. The rest of `out`
+/// stays.
 pub fn write_types(head: Head, store: u16, patterns: &[Pattern], out: &mut [u8]) -> u32
     requires count { head.count < 16384 }
     requires moment { head.moment < 2 ^ 48 }
     requires few { length patterns.now ≤ 64 }
     requires room { 1024 ≤ length out.old }
-    ensures length { result ≡ length (report_packet head.count head.moment (types_report store patterns.now)) }
-    ensures report { let packet = report_packet head.count head.moment (types_report store patterns.now)
+    ensures length { result ≡ length (report_packet head.count head.moment
+        (types_report store patterns.now)) }
+    ensures report { let packet = report_packet head.count head.moment
+        (types_report store patterns.now)
         in out.new ≡ packet ++ drop (length packet) out.old }
     ensures short { result ≤ 1024 }
-    ensures packet { IsPacket (report_packet head.count head.moment (types_report store patterns.now)) }
+    ensures packet { IsPacket (report_packet head.count head.moment
+        (types_report store patterns.now)) }
 {
     let content = STORE + 1 + PATTERN * patterns.len() as u32;
     put_head(head, STORAGE, TYPES_REPORT, content, out);

@@ -45,8 +45,8 @@ pub(crate) fn put_rows<R: Row>(rows: &[R], out: &mut [u8], at: usize)
     }
 }
 
-/// Writes the report that lists rows, at most 64, at the front of `out`, and answers its length. The rest of
-/// `out` stays.
+/// Writes the report that lists rows, at most 64, at the front of `out`, and answers its length.
+/// The rest of `out` stays.
 pub(crate) fn write_listed<R: Row>(
     head: Head,
     service: u8,
@@ -61,11 +61,14 @@ pub(crate) fn write_listed<R: Row>(
     requires size { R.SIZE * length rows.now ≤ 1004 }
     requires room { 1024 ≤ length out.old }
     ensures length { result
-        ≡ length (report_packet head.count head.moment (listed_report service subtype R.octets rows.now)) }
-    ensures report { let packet = report_packet head.count head.moment (listed_report service subtype R.octets rows.now)
+        ≡ length (report_packet head.count head.moment
+        (listed_report service subtype R.octets rows.now)) }
+    ensures report { let packet = report_packet head.count head.moment
+        (listed_report service subtype R.octets rows.now)
         in out.new ≡ packet ++ drop (length packet) out.old }
     ensures short { result ≤ 1024 }
-    ensures packet { IsPacket (report_packet head.count head.moment (listed_report service subtype R.octets rows.now)) }
+    ensures packet { IsPacket (report_packet head.count head.moment
+        (listed_report service subtype R.octets rows.now)) }
 {
     let content = 1 + R::SIZE * rows.len() as u32;
     put_head(head, service, subtype, content, out);

@@ -33,17 +33,18 @@ impl Row for StatusRow {
     ghost sized = { λ row. refl };
 }
 
-/// Writes the report of what is on in packet stores, at most 32, at the front of `out`, which has at
-/// least 1,024 octets, and answers the report's length: 20 octets and five a store. The report is of
-/// service 15 (ECSS-E-ST-70-41C, 6.15); it has the number of stores in one octet, and of each its
-/// identifier in two, and in one each whether its storage is on, whether its open retrieval is on, and
-/// whether a range retrieval stands. The rest of `out` stays.
+/// Writes the report of what is on in packet stores, at most 32, at the front of `out`, which has
+/// at least 1,024 octets, and answers the report's length: 20 octets and five a store. The report
+/// is of service 15 (ECSS-E-ST-70-41C, 6.15); it has the number of stores in one octet, and of each
+/// its identifier in two, and in one each whether its storage is on, whether its open retrieval is
+/// on, and whether a range retrieval stands. The rest of `out` stays.
 pub fn write_status(head: Head, rows: &[StatusRow], out: &mut [u8]) -> u32
     requires count { head.count < 16384 }
     requires moment { head.moment < 2 ^ 48 }
     requires few { length rows.now ≤ 32 }
     requires room { 1024 ≤ length out.old }
-    ensures length { result ≡ length (report_packet head.count head.moment (status_report rows.now)) }
+    ensures length { result ≡ length (report_packet head.count head.moment
+        (status_report rows.now)) }
     ensures report { let packet = report_packet head.count head.moment (status_report rows.now)
         in out.new ≡ packet ++ drop (length packet) out.old }
     ensures short { result ≤ 1024 }

@@ -35,19 +35,20 @@ impl Row for SummaryRow {
     ghost sized = { λ row. refl };
 }
 
-/// Writes the report of what packet stores have, at most 32 of them, at the front of `out`, which has
-/// at least 1,024 octets, and answers the report's length: 20 octets and 26 a store. The times are
-/// below 2^48. The report is of service 15 (ECSS-E-ST-70-41C, 6.15.3.8); it has the number of stores in
-/// one octet, and of each its identifier in two, the number of its packets and their pages in four
-/// each, the storage times of its first and its last packet in six each, and how many packets open
-/// retrieval has not passed in four. The rest of `out` stays.
+/// Writes the report of what packet stores have, at most 32 of them, at the front of `out`, which
+/// has at least 1,024 octets, and answers the report's length: 20 octets and 26 a store. The times
+/// are below 2^48. The report is of service 15 (ECSS-E-ST-70-41C, 6.15.3.8); it has the number of
+/// stores in one octet, and of each its identifier in two, the number of its packets and their
+/// pages in four each, the storage times of its first and its last packet in six each, and how many
+/// packets open retrieval has not passed in four. The rest of `out` stays.
 pub fn write_summary(head: Head, rows: &[SummaryRow], out: &mut [u8]) -> u32
     requires count { head.count < 16384 }
     requires moment { head.moment < 2 ^ 48 }
     requires few { length rows.now ≤ 32 }
     requires times { All HasTimes rows.now }
     requires room { 1024 ≤ length out.old }
-    ensures length { result ≡ length (report_packet head.count head.moment (summary_report rows.now)) }
+    ensures length { result ≡ length (report_packet head.count head.moment
+        (summary_report rows.now)) }
     ensures report { let packet = report_packet head.count head.moment (summary_report rows.now)
         in out.new ≡ packet ++ drop (length packet) out.old }
     ensures short { result ≤ 1024 }

@@ -21,8 +21,8 @@ fn head_of(count: u16, moment: u64) -> Head
     Head { count, moment }
 }
 
-// Whether a buffer that was full of 0xaa has these octets at its front, then a row of octets so many
-// times, and is left as it was behind them.
+// Whether a buffer that was full of 0xaa has these octets at its front, then a row of octets so
+// many times, and is left as it was behind them.
 fn has_rows(out: &[u8], front: &[u8], row: &[u8], times: usize) -> bool {
     let Some(mut rest) = out.strip_prefix(front) else {
         return false;
@@ -36,7 +36,8 @@ fn has_rows(out: &[u8], front: &[u8], row: &[u8], times: usize) -> bool {
     rest.iter().all(|octet| *octet == 0xaa)
 }
 
-// Whether a buffer that was full of 0xaa has these octets at its front, and is left as it was behind them.
+// Whether a buffer that was full of 0xaa has these octets at its front, and is left as it was
+// behind them.
 fn has_front(out: &[u8], front: &[u8]) -> bool {
     has_rows(out, front, &[], 0)
 }

@@ -62,19 +62,22 @@ fn put_failure(verdict: Verdict, out: &mut [u8], at: usize)
     }
 }
 
-/// Writes the report of a verdict on a request at the front of `out`, which has at least 1,024 octets,
-/// and answers the report's length: 23 octets of a success, 26 of a failure. The report is of
-/// service 1; it names the request by its first four octets, and a failure by its code, one octet, and
-/// its detail, two (ECSS-E-ST-70-41C, 8.1.2). The rest of `out` stays.
+/// Writes the report of a verdict on a request at the front of `out`, which has at least 1,024
+/// octets, and answers the report's length: 23 octets of a success, 26 of a failure. The report is
+/// of service 1; it names the request by its first four octets, and a failure by its code, one
+/// octet, and its detail, two (ECSS-E-ST-70-41C, 8.1.2). The rest of `out` stays.
 pub fn write_verdict(head: Head, verdict: Verdict, request: [u8; 4], out: &mut [u8]) -> u32
     requires count { head.count < 16384 }
     requires moment { head.moment < 2 ^ 48 }
     requires room { 1024 ≤ length out.old }
-    ensures length { result ≡ length (report_packet head.count head.moment (verdict_report request verdict)) }
-    ensures report { let packet = report_packet head.count head.moment (verdict_report request verdict)
+    ensures length { result ≡ length (report_packet head.count head.moment
+        (verdict_report request verdict)) }
+    ensures report { let packet = report_packet head.count head.moment
+        (verdict_report request verdict)
         in out.new ≡ packet ++ drop (length packet) out.old }
     ensures short { result ≤ 1024 }
-    ensures packet { IsPacket (report_packet head.count head.moment (verdict_report request verdict)) }
+    ensures packet { IsPacket (report_packet head.count head.moment
+        (verdict_report request verdict)) }
 {
     let content = IDENTIFIER + failure_length(verdict);
     put_head(head, VERIFICATION, subtype_of(verdict), content, out);

@@ -1,8 +1,6 @@
 -- The kinds that the code knows stand in the table.
-use Rattle.std.proofs.Common.{◌≡◌, ℕ, List, Some, None, refl, sym, ◌∙◌, ap}
+use Rattle.std.proofs.Common.{◌≡◌, ℕ, List, Some, None, refl, sym, ◌∙◌}
 use Rattle.octet_fields.proofs.Parts.{same_pair}
-use Rattle.control_defs.specs.declared.instructions.Instruction.{Instruction}
-use Rattle.pst_model.specs.Items.{kind_asked}
 use Rattle.pst_model.specs.Layouts.{kind_in}
 use Rattle.pst_model.specs.Requests.{SpellsRequest, items_by, malformed_at}
 use Rattle.pst_model.proofs.ItemOctets.{AreOctets}
@@ -23,10 +21,6 @@ asked-found kind service subtype found =
     let own = reader_found (asked_by kind).0 (asked_by kind).1 (row_of kind) (found-row kind) in
     let other = reader_found service subtype (row_of kind) found in
     same_pair (sym own.1 ∙ other.1) (sym own.2 ∙ other.2)
-
--- and so has an instruction for which requests of a kind ask
-pub row-asked : (item : Instruction) (kind : Kind) → kind_asked item ≡ asked_by kind → kind_in (kind_asked item).0 (kind_asked item).1 ≡ Some (row_of kind)
-row-asked item kind asks = ap (λ (asked : ℕ × ℕ). kind_in asked.0 asked.1) asks ∙ found-row kind
 
 -- data of a kind that is not malformed spells the instructions that are read
 pub spelled-view : (kind : Kind) (body : List ℕ) → AreOctets body → malformed_at (row_of kind) body ≡ None → SpellsRequest (asked_by kind).0 (asked_by kind).1 body (items_by body (Some (row_of kind)))

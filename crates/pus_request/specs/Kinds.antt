@@ -34,4 +34,5 @@ asked_by variants.Channel = (15, 28)
 
 -- the row of the table
 abbrev pub row_of : Kind → RequestKind
-row_of kind = unwrap_or (kind_in (asked_by kind).0 (asked_by kind).1) (alone 0 0 [] (λ item. Status))
+row_of kind =
+    unwrap_or (kind_in (asked_by kind).0 (asked_by kind).1) (alone 0 0 [] (λ item. Status))

@@ -26,7 +26,8 @@ impl<'a> Items<'a> {
         requires { malformed_at (row_of kind) body.now ≡ None }
         ensures kind { result.kind ≡ kind }
         ensures body { result.body.now ≡ body.now }
-        ensures spelled { SpellsRequest (asked_by kind).0 (asked_by kind).1 body.now (listed result) }
+        ensures spelled { SpellsRequest (asked_by kind).0 (asked_by kind).1 body.now
+            (listed result) }
     {
         Items { kind, body }
     }

@@ -49,7 +49,12 @@ pub(crate) struct Layout {
 
 // Requests with a list of items of this width.
 fn list(service: u8, subtype: u8, width: usize) -> Layout
-    ensures { result ≡ record { service = service; subtype = subtype; is_list = true; width = width } }
+    ensures { result ≡ record {
+      service = service;
+      subtype = subtype;
+      is_list = true;
+      width = width;
+    } }
 {
     Layout {
         service,
@@ -61,7 +66,12 @@ fn list(service: u8, subtype: u8, width: usize) -> Layout
 
 // Requests with one item of this width alone.
 fn alone(service: u8, subtype: u8, width: usize) -> Layout
-    ensures { result ≡ record { service = service; subtype = subtype; is_list = false; width = width } }
+    ensures { result ≡ record {
+      service = service;
+      subtype = subtype;
+      is_list = false;
+      width = width;
+    } }
 {
     Layout {
         service,
@@ -73,7 +83,8 @@ fn alone(service: u8, subtype: u8, width: usize) -> Layout
 
 /// The kind of requests of service 14 with this message subtype.
 fn of_forwarding(subtype: u8) -> Option<Kind>
-    ensures { MatchOption result (kind_in 14 subtype ≡ None) (λ kind. kind_in 14 subtype ≡ Some (row_of kind)) }
+    ensures { MatchOption result (kind_in 14 subtype ≡ None)
+        (λ kind. kind_in 14 subtype ≡ Some (row_of kind)) }
 {
     match subtype {
         1 => Some(Kind::ForwardAdd),
@@ -85,7 +96,8 @@ fn of_forwarding(subtype: u8) -> Option<Kind>
 
 /// The kind of requests of service 15 with this message subtype.
 fn of_storage(subtype: u8) -> Option<Kind>
-    ensures { MatchOption result (kind_in 15 subtype ≡ None) (λ kind. kind_in 15 subtype ≡ Some (row_of kind)) }
+    ensures { MatchOption result (kind_in 15 subtype ≡ None)
+        (λ kind. kind_in 15 subtype ≡ Some (row_of kind)) }
 {
     match subtype {
         1 => Some(Kind::Enable),
@@ -122,7 +134,8 @@ impl Kind {
 
     /// The kind of requests with this service type and message subtype, where there is one.
     pub(crate) fn of(service: u8, subtype: u8) -> Option<Kind>
-        ensures { MatchOption result (kind_in service subtype ≡ None) (λ kind. kind_in service subtype ≡ Some (row_of kind)) }
+        ensures { MatchOption result (kind_in service subtype ≡ None)
+            (λ kind. kind_in service subtype ≡ Some (row_of kind)) }
     {
         match service {
             FORWARDING => of_forwarding(subtype),

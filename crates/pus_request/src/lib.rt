@@ -1,6 +1,6 @@
-//! Requests of services 14 and 15 (ECSS-E-ST-70-41C, 6.14 and 6.15) to octets and back: the instructions
-//! that the data of a telecommand spells, or the first fault that it has, and the telecommand that asks for
-//! instructions.
+//! Requests of services 14 and 15 (ECSS-E-ST-70-41C, 6.14 and 6.15) to octets and back: the
+//! instructions that the data of a telecommand spells, or the first fault that it has, and the
+//! telecommand that asks for instructions.
 #![tactic(auto)]
 
 mod items;

@@ -23,7 +23,8 @@ pub(crate) fn wrong_in_pattern(body: &[u8], at: usize) -> Option<usize>
     requires { at + 5 ≤ length body.now }
     ensures { MatchOption result
         (first_below (is_wrong_in_pattern (drop at body.now)) 5 ≡ None)
-        (λ place. (at ≤ place) × (first_below (is_wrong_in_pattern (drop at body.now)) 5 ≡ Some (place - at))) }
+        (λ place. (at ≤ place) × (first_below (is_wrong_in_pattern (drop at body.now)) 5
+        ≡ Some (place - at))) }
 {
     let form = body[at];
     if form > KIND {

@@ -48,8 +48,8 @@ fn malformed_at(kind: Kind, body: &[u8]) -> Option<u16>
     Some(wrong_in_items(kind, body, count)? as u16)
 }
 
-/// The instructions that a telecommand asks for, in their order, or the first fault of its service, its
-/// subtype or its data (ECSS-E-ST-70-41C, 8.14.2 and 8.15.2).
+/// The instructions that a telecommand asks for, in their order, or the first fault of its service,
+/// its subtype or its data (ECSS-E-ST-70-41C, 8.14.2 and 8.15.2).
 pub fn read_request<'a>(tc: &TcView<'a>) -> Result<Items<'a>, RequestFault>
     ensures request { let octets = command_octets tc.now in
         IsOk result ↔ (request_fault_of (service_of octets) (subtype_of octets) (data_in octets) ≡ None) }

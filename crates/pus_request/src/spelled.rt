@@ -15,7 +15,8 @@ const BOUNDED: u8 = 1;
 /// The place of the first wrong octet of the item at `at`, where one is wrong.
 pub(crate) fn wrong_in_item(kind: Kind, body: &[u8], at: usize) -> Option<usize>
     requires { at + width_of (row_of kind).fields ≤ length body.now }
-    ensures { let first = first_below (is_wrong_in (row_of kind).fields (drop at body.now)) (width_of (row_of kind).fields) in
+    ensures { let first = first_below (is_wrong_in (row_of kind).fields (drop at body.now))
+        (width_of (row_of kind).fields) in
         MatchOption result (first ≡ None) (λ place. (at ≤ place) × (first ≡ Some (place - at))) }
 {
     match kind {
@@ -73,8 +74,8 @@ fn copy_at(body: &[u8], at: usize) -> Instruction
     }
 }
 
-/// The instruction that the item at `at` spells in the data of a request of this kind, where none of its
-/// octets is wrong.
+/// The instruction that the item at `at` spells in the data of a request of this kind, where none
+/// of its octets is wrong.
 pub(crate) fn item_at(kind: Kind, body: &[u8], at: usize) -> Instruction
     requires { at + width_of (row_of kind).fields ≤ length body.now }
     ensures { result ≡ (row_of kind).spelled (drop at body.now) }

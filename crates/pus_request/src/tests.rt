@@ -72,8 +72,8 @@ fn requests_are_written_and_read_back(rt: HostRuntime) {
     assert!(rt; spells(&octets, &[widest; 32]));
 }
 
-// Whether the request for one instruction has this service type, this message subtype and this data, and
-// reads back as the instruction.
+// Whether the request for one instruction has this service type, this message subtype and this
+// data, and reads back as the instruction.
 fn is_written_as(item: Instruction, service: u8, subtype: u8, body: &[u8]) -> bool
     requires lawful { IsInstruction item }
     requires fits { HasOctets item }

@@ -13,8 +13,8 @@ use octet_fields::{put_u8, put_u16};
 use pus_header::{APID, PUS_VERSION, TC_HEADERS};
 use space_packet::{Primary, UNSEGMENTED, write_primary};
 
-/// Writes the two headers of a request with `size` octets of data, at most 513, into the first 11 octets of
-/// `out`, and leaves the rest.
+/// Writes the two headers of a request with `size` octets of data, at most 513, into the first 11
+/// octets of `out`, and leaves the rest.
 fn write_headers(count: u16, acks: u8, kind: Kind, source: u16, size: u16, out: &mut [u8])
     requires count_fits { count < 16384 }
     requires acks_fit { acks < 16 }
@@ -39,7 +39,8 @@ fn write_headers(count: u16, acks: u8, kind: Kind, source: u16, size: u16, out: 
     put_u16(out, 9, source);
 }
 
-/// Writes what stands in front of so many items at `at`, and leaves the rest: their number, or nothing.
+/// Writes what stands in front of so many items at `at`, and leaves the rest: their number, or
+/// nothing.
 fn put_count(kind: Kind, count: u8, out: &mut [u8], at: usize)
     requires { at < length out.old }
     ensures { Writes out.old out.new at (if (row_of kind).is_list then count ∷ [] else []) }
@@ -61,11 +62,12 @@ fn put_items(items: &[Instruction], out: &mut [u8], at: usize)
     }
 }
 
-/// Writes the request for instructions at the front of `out`, which has at least 524 octets, and answers
-/// its length in octets. The rest of `out` stays. The instructions are lawful and of one kind: 1 to 32, or
-/// one of a kind that stands alone. The request is a telecommand of APID 10 with this sequence count, below
-/// 16,384 (CCSDS 133.0-B, 4.1.3); its secondary header (ECSS-E-ST-70-41C, 7.4.4) has PUS version number 2,
-/// these acknowledgement flags, below 16, and this source identifier.
+/// Writes the request for instructions at the front of `out`, which has at least 524 octets, and
+/// answers its length in octets. The rest of `out` stays. The instructions are lawful and of one
+/// kind: 1 to 32, or one of a kind that stands alone. The request is a telecommand of APID 10 with
+/// this sequence count, below 16,384 (CCSDS 133.0-B, 4.1.3); its secondary header
+/// (ECSS-E-ST-70-41C, 7.4.4) has PUS version number 2, these acknowledgement flags, below 16, and
+/// this source identifier.
 pub fn write_request(
     count: u16,
     acks: u8,
@@ -77,9 +79,11 @@ pub fn write_request(
     requires acks_fit { acks < 16 }
     requires asked { AreAsked (service_of_items items.now) (subtype_of_items items.now) items.now }
     requires room { 524 ≤ length out.old }
-    ensures length { let packet = request_packet count acks (service_of_items items.now) (subtype_of_items items.now) source items.now in
+    ensures length { let packet = request_packet count acks (service_of_items items.now)
+        (subtype_of_items items.now) source items.now in
         result ≡ length packet }
-    ensures packet { let packet = request_packet count acks (service_of_items items.now) (subtype_of_items items.now) source items.now in
+    ensures packet { let packet = request_packet count acks (service_of_items items.now)
+        (subtype_of_items items.now) source items.now in
         out.new ≡ packet ++ drop (length packet) out.old }
 {
     let kind = Kind::for_item(items[0]);

@@ -8,8 +8,8 @@ ghost use Rattle.control_defs.specs.PatternOctets.{pattern_octets};
 use control_defs::{Instruction, Pattern, StoreKind, put_pattern};
 use octet_fields::{put_u8, put_u16, put_u32, put_u48};
 
-// Each of these writes the fields of an item at `at`, one behind another, answers the place behind them, and
-// leaves the rest.
+// Each of these writes the fields of an item at `at`, one behind another, answers the place behind
+// them, and leaves the rest.
 
 fn put_store(store: u16, out: &mut [u8], at: usize) -> usize
     requires { at + 2 ≤ length out.old }
@@ -46,7 +46,8 @@ fn put_range(store: u16, t1: u64, t2: u64, out: &mut [u8], at: usize) -> usize
     requires t1 { t1 < 2 ^ 48 }
     requires t2 { t2 < 2 ^ 48 }
     ensures end { result ≡ at + 14 }
-    ensures item { Writes out.old out.new at ((big_bytes 2 store ++ big_bytes 6 t1) ++ big_bytes 6 t2) }
+    ensures item { Writes out.old out.new at
+        ((big_bytes 2 store ++ big_bytes 6 t1) ++ big_bytes 6 t2) }
 {
     put_u16(out, at, store);
     put_u48(out, at + 2, t1);
@@ -59,7 +60,8 @@ fn put_copy(from: u16, to: u16, t1: u64, t2: u64, out: &mut [u8], at: usize) -> 
     requires t1 { t1 < 2 ^ 48 }
     requires t2 { t2 < 2 ^ 48 }
     ensures end { result ≡ at + 16 }
-    ensures item { Writes out.old out.new at (((big_bytes 2 from ++ big_bytes 2 to) ++ big_bytes 6 t1) ++ big_bytes 6 t2) }
+    ensures item { Writes out.old out.new at
+        (((big_bytes 2 from ++ big_bytes 2 to) ++ big_bytes 6 t1) ++ big_bytes 6 t2) }
 {
     put_u16(out, at, from);
     put_u16(out, at + 2, to);
@@ -108,7 +110,8 @@ fn put_channel(store: u16, channel: u8, out: &mut [u8], at: usize) -> usize
     at + 3
 }
 
-/// Writes the item of an instruction at `at`, and answers the place behind it. The rest of `out` stays.
+/// Writes the item of an instruction at `at`, and answers the place behind it. The rest of `out`
+/// stays.
 pub(crate) fn put_item(item: Instruction, out: &mut [u8], at: usize) -> usize
     requires lawful { IsInstruction item }
     requires room { at + length (item_of item) ≤ length out.old }

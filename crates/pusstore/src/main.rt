@@ -1,17 +1,15 @@
 // pusstore DEVICE PLACE [WORD]...: a session of the packet store over a text on standard input.
 #![tactic(auto)]
 
-ghost use Rattle.std.specs.Prelude.{◌≤◌};
-
 mod outcome;
+mod reader;
 mod report;
+mod session;
 mod source;
 
-use board::MemBoard;
-use outcome::{outcome, print_sent};
 use report::Report;
-use source::StdSource;
-use station::{Device, Ending, device_of, station};
+use session::session;
+use station::{Device, Ending, device_of};
 use std::env;
 use std::io::ErrorKind;
 use std::process::ExitCode;
@@ -31,20 +29,6 @@ fn words_of(rt: &HostRuntime) -> Result<Vec<String>, Report> {
     }
 }
 
-// The session on a device in memory, whose words stand behind the first two.
-fn run_in_memory(rt: &HostRuntime, blocks: u32, words: &Vec<String>) -> Ending
-    requires least { 16 ≤ blocks }
-    requires most { blocks ≤ 512 }
-{
-    let Ok(mut board) = MemBoard::new(rt.alloc(), blocks) else {
-        return Ending::NoMemory;
-    };
-    let mut source = StdSource::new(rt.stdin());
-    let ending = station(rt.alloc(), words, &mut source, &mut board);
-    let printed = print_sent(&mut rt.stdout(), &board);
-    outcome(ending, board.starved(), printed)
-}
-
 fn run(rt: &HostRuntime) -> Report {
     let words = match words_of(rt) {
         Ok(words) => words,
@@ -54,7 +38,13 @@ fn run(rt: &HostRuntime) -> Report {
         return Report::Device;
     };
     match words.into_iter().skip(2).collect::<Vec<String>>(rt.alloc()) {
-        Ok(words) => Report::Session(run_in_memory(rt, blocks, &words)),
+        Ok(words) => Report::Session(session(
+            rt.alloc(),
+            &words,
+            blocks,
+            rt.stdin(),
+            &mut rt.stdout(),
+        )),
         Err(_) => Report::Session(Ending::NoMemory),
     }
 }

@@ -9,7 +9,8 @@ use std::io::Write;
 
 /// Writes all that the link in memory was sent, and answers whether that went well.
 pub fn print_sent<W: Write>(output: &mut W, board: &MemBoard) -> bool
-    ensures printed { IsTrue result → Appends (W.contents output.old) (W.contents output.new) (sent_at board.now (moment_of board.now)) }
+    ensures printed { IsTrue result
+        → Appends (W.contents output.old) (W.contents output.new) (sent_at board.now (moment_of board.now)) }
 {
     output.write_all(board.sent()).is_ok() && output.flush().is_ok()
 }
@@ -18,8 +19,10 @@ pub fn print_sent<W: Write>(output: &mut W, board: &MemBoard) -> bool
 /// output was printed.
 pub fn outcome(ending: Ending, starved: bool, printed: bool) -> Ending
     ensures unprinted { printed ≡ false → result ≡ Ending.LinkFault }
-    ensures no_memory { printed ≡ true → starved ≡ true → ending ≡ Ending.LinkFault → result ≡ Ending.NoMemory }
-    ensures same { printed ≡ true → (starved ≡ false) ⊎ (ending ≢ Ending.LinkFault) → result ≡ ending }
+    ensures no_memory { printed ≡ true → starved ≡ true → ending ≡ Ending.LinkFault
+        → result ≡ Ending.NoMemory }
+    ensures same { printed ≡ true → (starved ≡ false) ⊎ (ending ≢ Ending.LinkFault)
+        → result ≡ ending }
 {
     match ending {
         _ if !printed => Ending::LinkFault,

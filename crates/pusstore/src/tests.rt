@@ -1,8 +1,13 @@
 // What no clause says: which errors of a reader are taken up again, and that all that was sent is
 // printed where the writer takes it.
+ghost use Rattle.std.specs.Prelude.{false};
+
 use crate::outcome::print_sent;
+use crate::reader::Reader;
+use crate::session::session;
 use crate::source::StdSource;
 use board::{Board, Failed, MemBoard, Source};
+use station::Ending;
 use std::io::{Cursor, Error, ErrorKind, Read};
 use std::test::Fail;
 
@@ -29,6 +34,12 @@ const ACTS: [Act; 7] = [
 struct Halting {
     made: usize,
     next: u8,
+}
+
+impl Reader for Halting {
+    ghost tells = { false };
+
+    ghost known = { λ reader told. told };
 }
 
 impl Read for Halting {
@@ -78,5 +89,18 @@ fn all_that_was_sent_is_printed_where_there_is_room(rt: HostRuntime) -> Result<(
     assert_eq!(rt; output.as_slice(), b"one, two".as_slice());
     let mut room = [0; 7];
     assert!(rt; !print_sent(&mut Cursor::new(room.as_mut_slice()), &board));
+    Ok(())
+}
+
+#[test]
+fn a_session_prints_what_its_text_asks_for(rt: HostRuntime) -> Result<(), Fail> {
+    let text = b"A 000000000010 0864c000000d20031900000000000000000010aa\nG 000000000011\n";
+    let mut words = Vec::new(rt.alloc());
+    words.push(String::from_str(rt.alloc(), "fresh")?)?;
+    let mut output = Vec::new(rt.alloc());
+    let ending = session(rt.alloc(), &words, 16, text.as_slice(), &mut output);
+    assert_eq!(rt; ending, Ending::Done);
+    let wanted = b"1 0864c000000d20031900000000000000000010aa\n";
+    assert_eq!(rt; output.as_slice(), wanted.as_slice());
     Ok(())
 }

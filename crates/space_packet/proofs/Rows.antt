@@ -40,7 +40,8 @@ telemetry_header = refl
 command_header : header_of (record { command = true; secondary = false; apid = 2047; flags = 1; count = 16383; length = 65535 }) ≡ 23 ∷ 255 ∷ 127 ∷ 255 ∷ 255 ∷ 255 ∷ []
 command_header = refl
 
--- the first fault is told: too few octets, another version, a length that is too large, and octets behind
+-- the first fault is told: too few octets, another version, a length that is too large, and octets
+-- behind
 no_octets : fault_of [] ≡ Some (Short 0 6)
 no_octets = refl
 

@@ -19,9 +19,12 @@ identification_of head = from_bool head.command * 4096 + from_bool head.secondar
 abbrev pub sequence_of : Primary → ℕ
 sequence_of head = head.flags * 16384 + head.count
 
--- the six octets: packet identification, packet sequence control and packet data length, two octets each
+-- the six octets: packet identification, packet sequence control and packet data length, two octets
+-- each
 abbrev pub header_of : Primary → List ℕ
-header_of head = big_bytes 2 (identification_of head) ++ big_bytes 2 (sequence_of head) ++ big_bytes 2 head.length
+header_of head =
+    big_bytes 2 (identification_of head) ++ big_bytes 2 (sequence_of head)
+    ++ big_bytes 2 head.length
 
 -- octets whose header has these fields
 pub record HasFields (octets : List ℕ) (head : Primary) : Type 0 where

@@ -23,7 +23,8 @@ sequence_flags_of octets = field 2 2 octets / 16384
 abbrev pub sequence_count_of : List ℕ → ℕ
 sequence_count_of octets = field 2 2 octets % 16384
 
--- the length that the header says: 6 octets of header, and one more than the packet data length field
+-- the length that the header says: 6 octets of header, and one more than the packet data length
+-- field
 abbrev pub said_length : List ℕ → ℕ
 said_length octets = 7 + field 2 4 octets
 
@@ -44,5 +45,6 @@ fault_of octets =
     if nat_lt (length octets) (need_of octets) then Some (Short (length octets) (need_of octets))
     else if not (version_of octets == 0) then Some (Version (version_of octets))
     else if nat_lt 4096 (need_of octets) then Some (TooLarge (need_of octets))
-    else if nat_lt (need_of octets) (length octets) then Some (Long (length octets) (need_of octets))
+    else if nat_lt (need_of octets) (length octets)
+    then Some (Long (length octets) (need_of octets))
     else None

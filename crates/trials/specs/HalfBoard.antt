@@ -102,7 +102,8 @@ pub record Starves (old new : HalfBoard) : Type 0 where
 
 -- A send fails because it was planned to, and then sends half, or because there is no memory.
 pub record SendFails (bytes : List ℕ) (old new : HalfBoard) : Type 0 where
-  pub faults : (counts_of new).link_faults ≡ min ((counts_of old).link_faults + 1) 18446744073709551615
+  pub faults : (counts_of new).link_faults
+      ≡ min ((counts_of old).link_faults + 1) 18446744073709551615
   pub reason : (IsPlannedSend old new × SendsThese (half_of bytes) old new) ⊎ Starves old new
 
 -- A send that succeeds was not planned to fail, and sends all.

@@ -1,5 +1,5 @@
-//! Whole sessions over an outside that hurts: a source that gives little at a time, a link that breaks
-//! within a line, and texts made to be refused.
+//! Whole sessions over an outside that hurts: a source that gives little at a time, a link that
+//! breaks within a line, and texts made to be refused.
 #![tactic(auto)]
 
 mod half_board;

@@ -1,5 +1,5 @@
-// A text in memory that comes in short pieces. It tells what is left, and one take can be planned to
-// fail.
+// A text in memory that comes in short pieces. It tells what is left, and one take can be planned
+// to fail.
 ghost use Rattle.std.specs.Prelude.{◌≡◌, ◌≤◌, ◌<◌, ◌+◌, ◌++◌, ◌↔◌, ℕ, [], length, min, take, IfOk, IsErr, IsTrue, OnErr, OnOk, Some};
 ghost use Rattle.board.specs.Counts.{Rose};
 

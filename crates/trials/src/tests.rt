@@ -1,4 +1,5 @@
-// Whole sessions. What is expected of them is worked out here from the formats, apart from the program.
+// Whole sessions. What is expected of them is worked out here from the formats, apart from the
+// program.
 ghost use Rattle.std.specs.Prelude.{◌<◌};
 
 mod failures;
@@ -36,8 +37,8 @@ fn push_hex(text: &mut Vec<u8>, octet: u8) -> Result<(), AllocError> {
     Ok(())
 }
 
-// The digits of so many octets: those of a header with this first word and this length field, and behind
-// them one octet again and again.
+// The digits of so many octets: those of a header with this first word and this length field, and
+// behind them one octet again and again.
 fn digits_of(
     alloc: Global,
     count: usize,
@@ -55,8 +56,8 @@ fn digits_of(
     Ok(digits)
 }
 
-// How a session of the text ends, and what it sends, where a take gives at most so many octets, and maybe
-// one take fails.
+// How a session of the text ends, and what it sends, where a take gives at most so many octets, and
+// maybe one take fails.
 fn session(
     alloc: Global,
     text: &[u8],

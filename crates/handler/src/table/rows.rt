@@ -45,7 +45,8 @@ impl MemTable {
         }
     }
 
-    /// The row of the summary report that an instruction asks for, where it names a store that stands.
+    /// The row of the summary report that an instruction asks for, where it names a store that
+    /// stands.
     pub fn summary_asked(&self, instruction: Instruction) -> Option<SummaryRow>
         ensures row { option_to_list result ≡ summary_asked (table_of self.now).stores instruction }
         ensures times { IfSome result HasTimes }

@@ -42,8 +42,8 @@ fn short_takes_change_no_session(rt: HostRuntime) -> Result<(), Fail> {
     Ok(())
 }
 
-// The text comes in pieces, and behind the last one a take finds its end. Where a take fails, all whole
-// lines in the pieces before it were carried out.
+// The text comes in pieces, and behind the last one a take finds its end. Where a take fails, all
+// whole lines in the pieces before it were carried out.
 #[test]
 fn a_failed_take_ends_behind_the_lines_taken(rt: HostRuntime) -> Result<(), Fail> {
     let alloc = rt.alloc();

@@ -161,8 +161,8 @@ fn push_line(text: &mut Vec<u8>, line: &[u8], digits: &[u8]) -> Result<(), Alloc
     Ok(())
 }
 
-// The line ends a session as its first line and as its third one, behind an arrival and a grant whose
-// packet is sent. What stands behind it is not carried out.
+// The line ends a session as its first line and as its third one, behind an arrival and a grant
+// whose packet is sent. What stands behind it is not carried out.
 fn ends_the_session(
     rt: &impl Abort,
     alloc: Global,

@@ -38,9 +38,9 @@ fn ends_at_third(rt: &impl Abort, alloc: Global, text: &[u8], why: LineFault) ->
 // The front of a line, the octet that follows it again and again, the length, and the fault.
 type Row = (&'static [u8], u8, usize, LineFault);
 
-// An arrival has 15 octets in front of its digits. So a line of 131,199 octets is the longest one with an
-// even number of digits, which spell 65,592 octets, and the longest packet that a length field can say has
-// 65,542.
+// An arrival has 15 octets in front of its digits. So a line of 131,199 octets is the longest one
+// with an even number of digits, which spell 65,592 octets, and the longest packet that a length
+// field can say has 65,542.
 fn long_lines() -> [Row; 14] {
     let form = LineFault::Form;
     let short = |have, need| LineFault::Packet(PacketFault::Short { have, need });
@@ -85,7 +85,8 @@ fn long_lines_end_the_session(rt: HostRuntime) -> Result<(), Fail> {
     Ok(())
 }
 
-// A packet that arrives, in digits, and the pages that it takes with the 16 octets of its record head.
+// A packet that arrives, in digits, and the pages that it takes with the 16 octets of its record
+// head.
 #[derive(Drop)]
 struct Arrival {
     digits: Vec<u8>,

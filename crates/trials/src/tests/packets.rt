@@ -11,8 +11,8 @@ use std::test::Fail;
 /// What the first two lines send.
 const SENT: &[u8] = b"1 00010000000000\n";
 
-// A session whose third line is the arrival of these digits. Before it a packet of 7 octets is sent, and
-// behind it there is a grant.
+// A session whose third line is the arrival of these digits. Before it a packet of 7 octets is
+// sent, and behind it there is a grant.
 fn text_with(alloc: Global, digits: &[u8]) -> Result<Vec<u8>, AllocError> {
     let mut text = b"A 000000000010 00010000000000\nG 000000000011\nA 000000000012 ".to_vec(alloc)?;
     text.extend_from_slice(digits)?;
@@ -59,8 +59,8 @@ fn wrong_lengths() -> [Row; 17] {
     ]
 }
 
-// Other versions, whose fault comes behind short and before too large and long. Idle packets, of which an
-// APID of 2047 tells, have no rules of their own here.
+// Other versions, whose fault comes behind short and before too large and long. Idle packets, of
+// which an APID of 2047 tells, have no rules of their own here.
 fn wrong_versions() -> [Row; 14] {
     let version = |found| PacketFault::Version { found };
     [
@@ -108,7 +108,8 @@ fn octets_that_are_no_packet_end_the_session(rt: HostRuntime) -> Result<(), Fail
 #[test]
 fn a_packet_is_sent_and_an_idle_one_is_not(rt: HostRuntime) -> Result<(), Fail> {
     let alloc = rt.alloc();
-    // how many octets, the first two of them, the packet data length field, and whether they are sent
+    // how many octets, the first two of them, the packet data length field, and whether they are
+    // sent
     let rows = [
         (7, 0x0864, 0, true),
         (7, 0x1fff, 0, false),

@@ -7,7 +7,8 @@ use station::{Ending, station};
 use std::alloc::{AllocError, Global};
 use std::test::Fail;
 
-// Appends a request [14,1] of the patterns of 32 applications, or of one, the first of which has this APID.
+// Appends a request [14,1] of the patterns of 32 applications, or of one, the first of which has
+// this APID.
 fn push_applications(
     alloc: Global,
     text: &mut String,

@@ -8,8 +8,8 @@ use station::{Ending, station};
 use std::alloc::{AllocError, Global};
 use std::test::Fail;
 
-/// A request, and the reports that answer it: their subtypes, and what they have behind the request's
-/// identifier.
+/// A request, and the reports that answer it: their subtypes, and what they have behind the
+/// request's identifier.
 type Case = (&'static str, &'static [(u8, &'static str)]);
 
 /// Each in a session of its own, at moment 7.
@@ -53,7 +53,8 @@ const ALONE: [Case; 53] = [
     ("180ac0000007200f1a0000010001", &[(2, "04001a")]),
     ("180ac0000004200f1b0000", &[(2, "04001b")]),
     ("180ac0000007200f1c0000010001", &[(2, "04001c")]),
-    // patterns of no form, with an APID past the last one, and with fields that are not used and not zero
+    // patterns of no form, with an APID past the last one, and with fields that are not used and
+    // not zero
     ("180ac000000a200e010000010400000000", &[(2, "050001")]),
     ("180ac000000a200e010000010108000000", &[(2, "050002")]),
     ("180ac000000a200e010000010000010000", &[(2, "050003")]),

@@ -19,8 +19,8 @@ fn line_of(alloc: Global, front: &[u8], digits: &[u8]) -> Result<Vec<u8>, AllocE
     Ok(line)
 }
 
-// The turn of an arrival, or of a grant, which sends the first packet that was not sent yet. Digits arrive
-// in upper case, and go out in lower case.
+// The turn of an arrival, or of a grant, which sends the first packet that was not sent yet. Digits
+// arrive in upper case, and go out in lower case.
 fn turn_of<'a>(
     alloc: Global,
     waiting: &mut VecDeque<&'a [u8]>,

@@ -5,6 +5,8 @@ use Rattle.commit_gate.proofs.laws.images_are_read.Goals as goal
 
 pub returns : goal.returns
 returns c = record {
-  standing = λ blocks flash base start entries end image fits stands is. entries_read (area_of base image) start entries end (image_stands blocks flash base start entries end fits stands image is);
+  standing = λ blocks flash base start entries end image fits stands is. entries_read
+      (area_of base image) start entries end (image_stands blocks flash base start entries end fits
+      stands image is);
   written = either_read;
 }

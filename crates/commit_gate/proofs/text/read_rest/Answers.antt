@@ -13,12 +13,14 @@ loop-i-init g c =
     let old = c.args.board.now in
     record {
       read = λ told. c.requires.page told
-          ∙ sym (octets_one (area_of (256 * c.args.area.first) (means.flash old).content) c.args.first);
+          ∙ sym (octets_one (area_of (256 * c.args.area.first) (means.flash old).content)
+          c.args.first);
       front = refl;
       rest = refl;
       no_fault = refl;
       counted = omega arith;
-      reads = reads_none means old (λ image told left. g.met.B.Board.images_now old image told left);
+      reads =
+          reads_none means old (λ image told left. g.met.B.Board.images_now old image told left);
     }
 
 pub loop-i-preserved : goal.loop-i-preserved
@@ -30,19 +32,23 @@ loop-i-preserved g c =
     let i = c.loop-i.i in
     let buf = c.loop-i.buf in
     let page = c.read_page.new.into in
-    let risen = rose_by_one (means.counts c.loop-i.board).reads (means.counts c.read_page.new.board).reads
+    let risen =
+    rose_by_one (means.counts c.loop-i.board).reads (means.counts c.read_page.new.board).reads
     c.in_ok-read_page.ensures.counted in
     record {
       read = λ told. page_read (area_of base (means.flash old).content) c.args.first i buf page
           (omega arith) (omega arith) (so_far.read told)
           (c.in_ok-read_page.ensures.read (tells_too so_far.reads.same told)
-          ∙ ap (λ (f : Flash). area_of base f.content (c.args.first + i)) (so_far.reads.stays told).flash);
+          ∙ ap (λ (f : Flash). area_of base f.content (c.args.first + i))
+          (so_far.reads.stays told).flash);
       front = front_kept i buf page (omega arith) (omega arith) ∙ so_far.front;
-      rest = rest_kept i c.args.pages buf page (omega arith) (omega arith) (omega arith) ∙ so_far.rest;
+      rest = rest_kept i c.args.pages buf page (omega arith) (omega arith) (omega arith)
+          ∙ so_far.rest;
       no_fault = c.in_ok-read_page.ensures.no_fault ∙ so_far.no_fault;
       counted = omega (arith, so_far.counted, risen);
       reads = reads_most means old c.read_page.new.board
-          (reads_on means old c.loop-i.board c.read_page.new.board so_far.reads c.read_page.ensures.reads)
+          (reads_on means old c.loop-i.board c.read_page.new.board so_far.reads
+          c.read_page.ensures.reads)
           (omega arith);
     }
 
@@ -51,7 +57,8 @@ returns-in_err-read_page-clause-reads g c =
     let means = g.B.Board.means in
     let old = c.args.board.now in
     reads_most means old c.read_page.new.board
-    (reads_on means old c.loop-i.board c.read_page.new.board c.loop-i.invariant.reads c.read_page.ensures.reads)
+    (reads_on means old c.loop-i.board c.read_page.new.board c.loop-i.invariant.reads
+    c.read_page.ensures.reads)
     (omega arith)
 
 -- the page that was not read lies behind the first and before the rest

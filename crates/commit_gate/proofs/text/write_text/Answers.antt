@@ -17,7 +17,8 @@ loop-index-init g c =
     record {
       flash = λ told. sym (written_none first (payload_at first c.args.text.now) (means.flash old));
       others = λ told. same_elsewhere these (means.flash old) (means.flash old) refl;
-      seen = λ some told. absurd {A = means.images old (means.moment old) (means.flash old).content} (omega arith);
+      seen = λ some told. absurd {A = means.images old (means.moment old) (means.flash old).content}
+          (omega arith);
       touches = touches_none means these old
           (λ image told left. g.met.B.Board.images_now old image told left);
       programs = omega arith;
@@ -30,8 +31,10 @@ program-requires-clause-clean g c told =
     let so_far = c.loop-index.invariant in
     let was = tells_too (sym so_far.touches.same) told in
     let at = c.args.first + c.loop-index.index in
-    still_clean (256 * c.args.area.first + c.args.first) c.loop-index.index (256 * c.args.area.first + at)
-    c.args.text.now (means.flash c.args.board.now) (means.flash c.loop-index.board) (so_far.flash was)
+    still_clean (256 * c.args.area.first + c.args.first) c.loop-index.index
+    (256 * c.args.area.first + at)
+    c.args.text.now (means.flash c.args.board.now) (means.flash c.loop-index.board)
+    (so_far.flash was)
     (omega arith) (c.requires.clean was at (omega arith) (omega arith))
 
 pub loop-index-preserved : goal.loop-index-preserved
@@ -53,13 +56,17 @@ loop-index-preserved g c =
     c.in_ok-program.ensures.counted in
     record {
       flash = λ told. page_added first index text c.fill_page.new.page
-          (means.flash old) (means.flash mid) (means.flash new) c.fill_page.ensures (so_far.flash told)
-          (subst (λ (p : ℕ). means.flash new ≡ written (only_page p) (λ _. c.fill_page.new.page) (means.flash mid))
+          (means.flash old) (means.flash mid) (means.flash new) c.fill_page.ensures
+          (so_far.flash told)
+          (subst (λ (p : ℕ). means.flash new ≡ written (only_page p) (λ _. c.fill_page.new.page)
+          (means.flash mid))
           number (c.in_ok-program.ensures.ok (tells_too so_far.touches.same told)));
-      others = λ told. same_on these (only_page page) (means.flash old) (means.flash mid) (means.flash new) within
+      others = λ told. same_on these (only_page page) (means.flash old) (means.flash mid)
+          (means.flash new) within
           (so_far.others told) (c.program.ensures.others (tells_too so_far.touches.same told));
       seen = λ some told. c.in_ok-program.ensures.seen (tells_too so_far.touches.same told);
-      touches = touches_on means these (only_page page) old mid new within so_far.touches c.program.ensures.touches;
+      touches = touches_on means these (only_page page) old mid new within so_far.touches
+          c.program.ensures.touches;
       programs = omega (arith, so_far.programs, risen);
       no_fault = c.in_ok-program.ensures.no_fault ∙ so_far.no_fault;
     }
@@ -71,7 +78,9 @@ returns-in_err-program-clause-touches g c =
     let index = c.loop-index.index in
     let page = 256 * c.args.area.first + (c.args.first + index) in
     let more : index < payload_pages (length c.args.text.now) = omega arith in
-    touches_most means (touches_on means (pages_from first (payload_pages (length c.args.text.now))) (only_page page)
+    touches_most means (touches_on means (pages_from first (payload_pages (length c.args.text.now)))
+    (only_page page)
     c.args.board.now c.loop-index.board c.program.new.board
     (page_within first index (payload_pages (length c.args.text.now)) page (omega arith) more)
-    c.loop-index.invariant.touches c.program.ensures.touches) (omega arith) (omega arith) (omega arith)
+    c.loop-index.invariant.touches c.program.ensures.touches) (omega arith) (omega arith)
+    (omega arith)

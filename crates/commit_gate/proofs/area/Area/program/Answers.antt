@@ -30,10 +30,12 @@ returns-clause-others g c told =
     subst (λ (p : ℕ). SameElsewhere (only_page p) (means.flash old) (means.flash new))
     (page_number c.args.self.first c.args.at)
     (program_elsewhere c.program.result (TellsFlash means old)
-    (only_page (256 * (c.args.self.first + c.args.at / 256) + c.args.at % 256)) (λ _. c.args.from.now)
+    (only_page (256 * (c.args.self.first + c.args.at / 256) + c.args.at % 256))
+    (λ _. c.args.from.now)
     (means.flash old) (means.flash new) c.program.ensures.ok c.program.ensures.err told)
 
 pub returns-clause-touches : goal.returns-clause-touches
 returns-clause-touches g c =
-    subst (λ (p : ℕ). Touches g.B.Board.means (only_page p) 1 0 0 c.args.board.now c.program.new.self)
+    subst (λ (p : ℕ). Touches g.B.Board.means
+    (only_page p) 1 0 0 c.args.board.now c.program.new.self)
     (page_number c.args.self.first c.args.at) c.program.ensures.touches

@@ -10,5 +10,6 @@ returns-clause-read g c =
     let content = (means.flash old).content in
     let same = ap content (page_number c.args.self.first c.args.at)
     ∙ sym (area_page (256 * c.args.self.first) content c.args.at c.requires.place) in
-    subst (λ (page : List ℕ). OnOk c.read_page.result (TellsFlash means old → c.read_page.new.into ≡ page))
+    subst (λ (page : List ℕ). OnOk c.read_page.result (TellsFlash means old
+    → c.read_page.new.into ≡ page))
     same c.read_page.ensures.read

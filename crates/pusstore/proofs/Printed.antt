@@ -1,0 +1,114 @@
+-- What a program printed, of what its device was sent.
+use Rattle.std.proofs.Common.{◌≡◌, ◌≢◌, ◌⊎◌, ℕ, Bool, true, false, List, [], ◌++◌, Some, None, refl, sym, ◌∙◌, ap, subst, arith, inl, inr}
+use Rattle.std.proofs.lemmas.List.{append-nil}
+use Rattle.std.specs.Prelude.{IsTrue, Option, ⊤, length, take, ◌-◌}
+use Rattle.std.specs.Io.KnownBytes.{Appends}
+use Rattle.board.specs.declared.memory.MemBoard.{MemBoard}
+use Rattle.board.specs.Flash.{blank}
+use Rattle.board.specs.Memory.{IsNewBoard, memory_means, moment_of, sent_at}
+use Rattle.board.specs.Moments.{IsPrefixOf, SendsOnly}
+use Rattle.handler.specs.Sending.{BreaksIn, SendsLines}
+use Rattle.pst_model.specs.Rules.{Output}
+use Rattle.pst_model.specs.Run.{lines_of}
+use Rattle.station.specs.declared.ending.Ending.{Ending}
+use Rattle.station.specs.declared.ending.Ending.TheVariants.{Done, BadWords, BadLine, LinkFault, SourceFault, NoMemory}
+use Rattle.station.specs.Session.{EndsReading, EndsSending, MayBeSent, lines_for, read_of, taken_of}
+use Rattle.pusstore.specs.Printing.{EndsPrinting}
+
+-- a writer that gained nothing
+gains_nothing : (known : Option (List ℕ)) → Appends known known []
+gains_nothing None = tt
+gains_nothing (Some xs) = sym (append-nil xs)
+
+-- whether the link failed
+abbrev Unbroken : Ending → Type 0
+Unbroken Done = ⊤
+Unbroken BadWords = ⊤
+Unbroken (BadLine line why) = ⊤
+Unbroken LinkFault = ⊥
+Unbroken SourceFault = ⊤
+Unbroken NoMemory = ⊤
+
+broken_or : (ending : Ending) → (ending ≡ LinkFault) ⊎ (ending ≢ LinkFault)
+broken_or Done = inr (λ is. subst Unbroken is tt)
+broken_or BadWords = inr (λ is. subst Unbroken is tt)
+broken_or (BadLine line why) = inr (λ is. subst Unbroken is tt)
+broken_or LinkFault = inl refl
+broken_or SourceFault = inr (λ is. subst Unbroken is tt)
+broken_or NoMemory = inr (λ is. subst Unbroken is tt)
+
+-- a program that found no memory for its device
+pub prints_none : (text : List ℕ) (known : Option (List ℕ)) → EndsPrinting text known known NoMemory
+prints_none text known = record {
+  left = text;
+  taken = let none : 0 ≡ length text - length text = omega arith in ap (λ (n : ℕ). take n text ++ text) none;
+  front = [];
+  prefix = (lines_for (read_of text text), refl);
+  printed = gains_nothing known;
+}
+
+module _ (text left : List ℕ) (before after : Option (List ℕ)) (blocks : ℕ) (board board' : MemBoard)
+    (made : IsNewBoard blocks (λ p. blank) true board) (tells : Bool) (told : IsTrue tells) where
+  -- what a new device was sent
+  sent_lines : (outputs : List Output) → SendsLines memory_means board board' outputs
+      → sent_at board' (moment_of board') ≡ lines_of outputs
+  sent_lines outputs lines = lines.gained refl ∙ ap (λ (old : List ℕ). old ++ lines_of outputs) made.sent
+
+  sent_front : SendsOnly memory_means board board' (MayBeSent tells (read_of text left) (sent_at board (moment_of board)))
+      → IsPrefixOf (sent_at board' (moment_of board')) (lines_for (read_of text left))
+  sent_front moments =
+      let front = (moments.each (moment_of board') moments.later (omega arith)).lines told in
+      subst (λ (octets : List ℕ). IsPrefixOf octets (lines_for (read_of text left)))
+      (sym (front.gained ∙ ap (λ (old : List ℕ). old ++ front.front) made.sent)) front.prefix
+
+  sent_nothing : board' ≡ board → sent_at board' (moment_of board') ≡ []
+  sent_nothing same = ap (λ (b : MemBoard). sent_at b (moment_of b)) same ∙ made.sent
+
+  -- a program that printed all that its device was sent, and ends as its session did
+  prints_as : (ending : Ending) → text ≡ taken_of text left ++ left → EndsReading text left ending
+      → EndsSending text left (SendsLines memory_means board board') (BreaksIn memory_means board board') ending
+      → SendsOnly memory_means board board' (MayBeSent tells (read_of text left) (sent_at board (moment_of board)))
+      → (ending ≡ BadWords → board' ≡ board)
+      → Appends before after (sent_at board' (moment_of board')) → EndsPrinting text before after ending
+  prints_as Done taken reading sending moments unchanged printed =
+      (reading.0, subst (λ (octets : List ℕ). Appends before after octets) (sent_lines _ sending) printed)
+  prints_as (BadLine line why) taken reading sending moments unchanged printed =
+      (reading, subst (λ (octets : List ℕ). Appends before after octets) (sent_lines _ sending) printed)
+  prints_as SourceFault taken reading sending moments unchanged printed = record {
+    left = left;
+    taken = taken;
+    none_bad = reading;
+    printed = subst (λ (octets : List ℕ). Appends before after octets) (sent_lines _ sending) printed;
+  }
+  prints_as LinkFault taken reading sending moments unchanged printed = tt
+  prints_as NoMemory taken reading sending moments unchanged printed = record {
+    left = left;
+    taken = taken;
+    front = sent_at board' (moment_of board');
+    prefix = sent_front moments;
+    printed = printed;
+  }
+  prints_as BadWords taken reading sending moments unchanged printed =
+      subst (λ (octets : List ℕ). Appends before after octets) (sent_nothing (unchanged refl)) printed
+
+  pub prints : (ending result : Ending) (starved printed : Bool)
+      → (printed ≡ false → result ≡ LinkFault)
+      → (printed ≡ true → starved ≡ true → ending ≡ LinkFault → result ≡ NoMemory)
+      → (printed ≡ true → (starved ≡ false) ⊎ (ending ≢ LinkFault) → result ≡ ending)
+      → text ≡ taken_of text left ++ left → EndsReading text left ending
+      → EndsSending text left (SendsLines memory_means board board') (BreaksIn memory_means board board') ending
+      → SendsOnly memory_means board board' (MayBeSent tells (read_of text left) (sent_at board (moment_of board)))
+      → (ending ≡ BadWords → board' ≡ board)
+      → (IsTrue printed → Appends before after (sent_at board' (moment_of board'))) → EndsPrinting text before after result
+  prints ending result starved false unprinted no_memory same taken reading sending moments unchanged gained =
+      subst (λ (e : Ending). EndsPrinting text before after e) (sym (unprinted refl)) tt
+  prints ending result false true unprinted no_memory same taken reading sending moments unchanged gained =
+      subst (λ (e : Ending). EndsPrinting text before after e) (sym (same refl (inl refl)))
+      (prints_as ending taken reading sending moments unchanged (gained refl))
+  prints ending result true true unprinted no_memory same taken reading sending moments unchanged gained =
+      elim (broken_or ending) [
+        | inl is ↦ subst (λ (e : Ending). EndsPrinting text before after e) (sym (no_memory refl refl is))
+            (record { left = left; taken = taken; front = sent_at board' (moment_of board'); prefix = sent_front moments; printed = gained refl })
+        | inr not ↦ subst (λ (e : Ending). EndsPrinting text before after e) (sym (same refl (inr not)))
+            (prints_as ending taken reading sending moments unchanged (gained refl))
+      ]

@@ -1,0 +1,40 @@
+-- What a session prints of its text.
+use Rattle.std.specs.Prelude.{◌≡◌, ◌++◌, ℕ, List, [], Option, Some, None, ⊤, unwrap_or}
+use Rattle.std.specs.Io.KnownBytes.{Appends}
+use Rattle.board.specs.Moments.{IsPrefixOf}
+use Rattle.pst_model.specs.Text.{bad_read, commands_of, first_bad}
+use Rattle.station.specs.declared.ending.Ending.{Ending}
+use Rattle.station.specs.declared.ending.Ending.TheVariants.{Done, BadWords, BadLine, LinkFault, SourceFault, NoMemory}
+use Rattle.station.specs.Session.{lines_for, read_of, taken_of, text_limit}
+
+-- the octets that a reader has left, where they are known
+abbrev pub octets_left : Option (List ℕ) → List ℕ
+octets_left known = unwrap_or known []
+
+-- The writer gained a front of the lines for the commands read, where these octets of the text are left.
+pub record PrintsFront (text : List ℕ) (before after : Option (List ℕ)) : Type 0 where
+  pub left : List ℕ
+  pub taken : text ≡ taken_of text left ++ left
+  pub front : List ℕ
+  pub prefix : IsPrefixOf front (lines_for (read_of text left))
+  pub printed : Appends before after front
+
+-- The source failed, and the writer gained all lines for the commands read.
+pub record PrintsRead (text : List ℕ) (before after : Option (List ℕ)) : Type 0 where
+  pub left : List ℕ
+  pub taken : text ≡ taken_of text left ++ left
+  pub none_bad : bad_read text_limit (taken_of text left) ≡ None
+  pub printed : Appends before after (lines_for (read_of text left))
+
+-- What the ending of a program says of its text, and of what its writer gained: all lines for the text, those for the
+-- commands before its first bad line, or those for the commands read; a front of these for want of memory; and nothing
+-- where the words are not known. At LinkFault the writer may hold anything.
+abbrev pub EndsPrinting : (text : List ℕ) → (before after : Option (List ℕ)) → Ending → Type 0
+EndsPrinting text before after Done =
+    (first_bad text_limit text ≡ None) × Appends before after (lines_for (commands_of text_limit text))
+EndsPrinting text before after (BadLine line why) =
+    (first_bad text_limit text ≡ Some (line, why)) × Appends before after (lines_for (commands_of text_limit text))
+EndsPrinting text before after SourceFault = PrintsRead text before after
+EndsPrinting text before after NoMemory = PrintsFront text before after
+EndsPrinting text before after LinkFault = ⊤
+EndsPrinting text before after BadWords = Appends before after []
