@@ -9,6 +9,7 @@ use space_packet::charge;
 use std::alloc::{AllocError, Global};
 use std::marker::Model;
 
+/// Entries in a ring, in the order of their stamps, and the number of the first one's record.
 #[derive(Drop)]
 pub struct Ring {
     entries: HeapCircularBuffer<Entry>,
@@ -32,6 +33,7 @@ impl Model for Ring {
 }
 
 impl Ring {
+    /// An empty ring with room for `size` entries, whose next entry has the number `first`.
     pub fn new(alloc: Global, size: u32, first: u32) -> Result<Ring, AllocError>
         requires least { 1 ≤ size }
         requires most { size ≤ 100000 }
@@ -42,6 +44,7 @@ impl Ring {
         Ok(Ring { entries, first })
     }
 
+    /// The same entries with room for `size`.
     pub fn resized(&self, alloc: Global, size: u32) -> Result<Ring, AllocError>
         requires least { 1 ≤ size }
         requires most { size ≤ 100000 }
@@ -58,6 +61,7 @@ impl Ring {
         })
     }
 
+    /// How many entries there are.
     pub fn len(&self) -> u32
         ensures len { result ≡ length self.now.entries }
         ensures within { result ≤ self.now.size }
@@ -66,6 +70,7 @@ impl Ring {
         self.entries.len() as u32
     }
 
+    /// How many entries there may be.
     pub fn size(&self) -> u32
         ensures size { result ≡ self.now.size }
         ensures range { (1 ≤ result) × (result ≤ 100000) }
@@ -73,12 +78,14 @@ impl Ring {
         self.entries.capacity() as u32
     }
 
+    /// The number of the first entry's record.
     pub fn first(&self) -> u32
         ensures { result ≡ self.now.first }
     {
         self.first
     }
 
+    /// The entry at a position, counted from 0 at the front.
     pub fn entry(&self, position: u32) -> Entry
         requires { position < length self.now.entries }
         ensures { slice_get self.now.entries position ≡ Some result }
@@ -86,6 +93,7 @@ impl Ring {
         *self.entries.get(position as usize).unwrap()
     }
 
+    /// Puts an entry at the end.
     pub fn push(&mut self, entry: Entry)
         requires room { length self.old.entries < self.old.size }
         requires order { EndsBy self.old.entries entry.stamp }
@@ -94,6 +102,7 @@ impl Ring {
         self.entries.push_back(entry);
     }
 
+    /// Takes the first `count` entries out. The first number goes on by as many, modulo 2^32.
     pub fn drop_front(&mut self, count: u32)
         requires { count ≤ length self.old.entries }
         ensures { self.new ≡ without_first self.old count }
@@ -103,6 +112,7 @@ impl Ring {
         self.first = self.first.wrapping_add(count);
     }
 
+    /// Puts an entry with the same stamp in place of the one at a position.
     pub fn replace(&mut self, position: u32, entry: Entry)
         requires within { position < length self.old.entries }
         requires stamp { (d : Entry) → stamp_of (slice_index_or self.old.entries position d) ≡ entry.stamp }
