@@ -1,5 +1,7 @@
 // What no clause says: that the calls succeed where there is memory, and what the roots choose after
 // each stop and each failing call, against a plain table.
+ghost use Rattle.std.specs.Prelude.{◌≤◌};
+
 use crate::{Choice, Root, Votes, advance, plant, read_roots, repair};
 use board::{Board, CallKind, Failed, MemBoard, Torn};
 use std::alloc::Global;
@@ -110,22 +112,35 @@ fn put(image: &mut [u8], at: usize, octets: &[u8]) {
     }
 }
 
+// Spells the root 6 in the first pages of blocks 0, 1 and 2, but for an octet behind the numbers of the
+// second and one in the text of the third.
+fn spell_roots(image: &mut [u8]) {
+    for block in 0..3 {
+        put(image, 65_536 * block, b"PUSSTORE");
+        put(image, 65_536 * block + 8, &[1, 0, 0, 0, 16]);
+        put(image, 65_536 * block + 20, &[6]);
+    }
+    put(image, 65_536 + 255, &[1]);
+    put(image, 2 * 65_536, b"p");
+}
+
+// The votes of a device of so many blocks with these roots, and how many pages were read for them.
+fn votes_of(alloc: Global, blocks: u32) -> Result<(Votes, u64), Fail>
+    requires least { 16 ≤ blocks }
+    requires most { blocks ≤ 512 }
+{
+    let mut image = vec![in alloc; 0u8; 65_536 * blocks as usize]?;
+    spell_roots(&mut image);
+    let mut board = MemBoard::from_image(alloc, image)?;
+    let votes = read_roots(&mut board)?;
+    Ok((votes, board.count(CallKind::Read)))
+}
+
 #[test]
 fn a_page_is_a_root_by_its_text_and_its_zeros(rt: HostRuntime) -> Result<(), Fail> {
-    let mut image = vec![in rt.alloc(); 0u8; 16 * 65_536]?;
-    for block in 0..3 {
-        let start = 65_536 * block;
-        put(&mut image, start, b"PUSSTORE");
-        put(&mut image, start + 8, &[1, 0, 0, 0, 16]);
-        put(&mut image, start + 20, &[6]);
-    }
-    // an octet behind the numbers, and another text
-    put(&mut image, 65_536 + 255, &[1]);
-    put(&mut image, 2 * 65_536, b"p");
-    let mut board = MemBoard::from_image(rt.alloc(), image)?;
-    let votes = read_roots(&mut board)?.votes;
-    assert_eq!(rt; votes, [Some(root(6)), None, None]);
-    assert_eq!(rt; board.count(CallKind::Read), 3);
+    let (votes, reads) = votes_of(rt.alloc(), 16)?;
+    assert_eq!(rt; votes.votes, [Some(root(6)), None, None]);
+    assert_eq!(rt; reads, 3);
     Ok(())
 }
 

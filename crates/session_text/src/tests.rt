@@ -211,14 +211,12 @@ fn read_grants(alloc: Global, count: usize) -> Result<(usize, u64), Fail> {
         takes: 0,
     };
     let mut lines = Lines::new(alloc, i64::MAX as u64)?;
-    let mut grants = 0;
-    for _ in 0..count {
+    for read in 0..count {
         if !lines.is_live() || !matches!(lines.next_line(&mut source), Ok(Some(_))) {
-            break;
+            return Ok((read, source.takes));
         }
-        grants += 1;
     }
-    Ok((grants, source.takes))
+    Ok((count, source.takes))
 }
 
 #[test]
