@@ -1,7 +1,7 @@
 -- What a pool holds of the blocks of a device.
 use Rattle.std.specs.Prelude.{◌≡◌, ◌<◌, ◌≤◌, ◌⊎◌, ◌-◌, ◌++◌, ℕ, Bool, true, false, List, count_by, get_or, length, replicate}
 
--- for each block, whether it is free, whether it is erased and clean, and how often it was erased
+-- for each block, whether it is free, whether it is ready, and how often it was erased
 pub record Blocks : Type 0 where
   pub free : List Bool
   pub ready : List Bool

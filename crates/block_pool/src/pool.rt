@@ -9,9 +9,10 @@ use std::marker::Model;
 /// The first data block.
 const FIRST: usize = 7;
 
-/// Which data blocks are free, which blocks are erased and clean, and how often each block was
-/// erased, as far as 4,294,967,295 times. A device has 16 to 512 blocks, of which 7 and those above
-/// are data blocks.
+/// Which data blocks are free, which are ready, and how often each block was erased, as far as
+/// 4,294,967,295 times. A block is ready if it was erased while it was free, and was not given back
+/// since: what is written in a block once it is taken, a pool does not see. A device has 16 to 512
+/// blocks, of which 7 and those above are data blocks.
 #[derive(Drop)]
 pub struct Pool {
     free: Vec<bool>,
@@ -64,7 +65,7 @@ impl Pool {
         (block as usize) < self.free.len() && self.free[block as usize]
     }
 
-    /// Whether the block is a data block that was erased and not written since.
+    /// Whether the block is a data block that is ready.
     pub fn is_ready(&self, block: u32) -> bool
         ensures ready { result ≡ is_ready self.now block }
         ensures block { IsTrue result → IsData self.now block }

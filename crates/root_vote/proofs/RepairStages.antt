@@ -1,21 +1,20 @@
 -- The moments of a repair, page by page.
 use Rattle.std.proofs.Common.{◌≡◌, ℕ, zero, suc, ◌+◌, ◌*◌, ◌^◌, ◌<◌, ◌≤◌, Bool, true, false, ◌&&◌, List, ◌∷◌, [], Option, Some, None, get_or, refl, sym, ◌∙◌, ap, subst, arith}
-use Rattle.std.specs.Prelude.{IsTrue, if◌then◌else◌}
-use Rattle.board.specs.Device.{Device}
+use Rattle.std.specs.Prelude.{if◌then◌else◌}
 use Rattle.board.specs.Flash.{Flash, IsImage, loosened, only_page, pages_of_block}
-use Rattle.board.specs.Meaning.{BoardMeaning}
+use Rattle.board.specs.Meaning.{BoardMeaning, TellsFlash}
 use Rattle.board.specs.Moments.{LeavesOnly}
 use Rattle.board.proofs.Pages.{inside, is_only}
-use Rattle.board.proofs.Stops.{goes_on, weaker}
+use Rattle.board.proofs.Stops.{weaker}
 use Rattle.board.proofs.Works.{tells_too}
 use Rattle.root_vote.specs.declared.root.Root.{Root}
 use Rattle.root_vote.specs.Roots.{AreVotes, LeadsTo, are_all, choice_by, choice_of, choice_of_votes, is_vote, root_in, root_page}
 use Rattle.root_vote.specs.Rooted.{FirmRoots, IsRepairOf, IsRepaired, Rooted, is_root_block, settled, settled_by, settled_pages, settled_work, with_repairs}
-use Rattle.board.specs.Touches.{KeptElsewhere, Touches}
+use Rattle.board.specs.Touches.{Touches}
 use Rattle.root_vote.proofs.Choices.{first, second}
 use Rattle.root_vote.proofs.PageRead.{page_read}
 use Rattle.root_vote.proofs.Repairs.{repair_first, repair_last, repair_middle, repair_work, vote_for}
-use Rattle.root_vote.proofs.Rewriting.{rewritten_others}
+use Rattle.root_vote.proofs.Rewriting.{leaves_on, rewritten_others}
 use Rattle.root_vote.proofs.RootStages.{page_left, root_block}
 use Rattle.board.proofs.Touching as touching
 use Rattle.board.proofs.Touching.{Within, image_since}
@@ -166,9 +165,11 @@ all_spell votes to content all are =
     spells e f h (suc (suc zero)) lt = h
     spells e f h (suc (suc (suc k))) lt = absurd (omega arith)
 
+-- what a stop leaves while each page is settled
 module _ {B : Type 0} (means : BoardMeaning B)
-    (old : B) (told : IsTrue (means.device old).tells_flash) (votes : List (Option Root)) (to : Root) (enough : 3 ≤ (means.device old).blocks) (spelled : root_in (root_page to) ≡ Some to)
-    (leads : LeadsTo to (choice_of_votes votes)) (are : AreVotes votes (means.flash old).content) (firm_roots : FirmRoots (means.flash old)) where
+    (old : B) (told : TellsFlash means old) (votes : List (Option Root)) (to : Root) (generation : to.generation < 256 ^ 8) (blocks : to.blocks < 256 ^ 4)
+    (enough : 3 ≤ (means.device old).blocks) (leads : LeadsTo to (choice_of_votes votes))
+    (are : AreVotes votes (means.flash old).content) (firm_roots : FirmRoots (means.flash old)) where
   abbrev u : Option Root
   u = get_or votes 0 None
 
@@ -190,22 +191,36 @@ module _ {B : Type 0} (means : BoardMeaning B)
   vote_is : (x : Option Root) → is_vote x to ≡ true → x ≡ Some to
   vote_is x h = vote_for x to h
 
+  -- the root is read back from its page
+  spelled : root_in (root_page to) ≡ Some to
+  spelled = page_read to generation blocks
+
+  abbrev IsSettled : ℕ → Option Root → B → B → Type 0
+  IsSettled block vote a b = TellsFlash means a → means.flash b ≡ settled block vote to (means.flash a)
+
+  second_flash : (a b : B) → Settles 0 u old a → IsSettled 0 u old a → IsSettled 1 v a b → means.flash b ≡ settled 1 v to (settled 0 u to (means.flash old))
+  second_flash a b run ok_a ok_b = ok_b (tells_too run.same told) ∙ ap (settled 1 v to) (ok_a told)
+
   pub first_leaves : (a : B) → Settles 0 u old a → LeavesOnly means old a Now
   first_leaves a run = weaker means old a Now (IsImage (means.device old).blocks (loosened (settled_pages 0 u to) (means.flash old))) (run.leaves told)
       (repaired_first (means.device old).blocks (means.flash old) u v w to enough spelled vote_is leads at.0 at.1 at.2 firm_roots)
 
-  pub second_leaves : (a b : B) → LeavesOnly means old a Now → means.device a ≡ means.device old → means.flash a ≡ settled 0 u to (means.flash old) → Settles 1 v a b → LeavesOnly means old b Now
-  second_leaves a b first same is run = goes_on means old a b Now (IsImage (means.device a).blocks (loosened (settled_pages 1 v to) (means.flash a))) first (run.leaves (tells_too same told))
-      (λ image left. repaired_second (means.device old).blocks (means.flash old) u v w to enough spelled vote_is leads at.0 at.1 at.2 firm_roots image
-      (subst (λ (f : Flash). IsImage (means.device old).blocks (loosened (settled_pages 1 v to) f) image) is (subst (λ (d : Device). IsImage d.blocks (loosened (settled_pages 1 v to) (means.flash a)) image) same left)))
+  pub second_leaves : (a b : B) → Settles 0 u old a → IsSettled 0 u old a → Settles 1 v a b → LeavesOnly means old b Now
+  second_leaves a b run_a ok_a run_b = leaves_on means old a b Now (settled_pages 1 v to) (settled 0 u to (means.flash old))
+      (first_leaves a run_a) run_a.same (ok_a told) (run_b.leaves (tells_too run_a.same told))
+      (repaired_second (means.device old).blocks (means.flash old) u v w to enough spelled vote_is leads at.0 at.1 at.2 firm_roots)
 
-  pub third_leaves : (b d : B) → LeavesOnly means old b Now → means.device b ≡ means.device old → means.flash b ≡ settled 1 v to (settled 0 u to (means.flash old)) → Settles 2 w b d → LeavesOnly means old d Now
-  third_leaves b d second same is run = goes_on means old b d Now (IsImage (means.device b).blocks (loosened (settled_pages 2 w to) (means.flash b))) second (run.leaves (tells_too same told))
-      (λ image left. repaired_third (means.device old).blocks (means.flash old) u v w to enough spelled vote_is leads at.0 at.1 at.2 firm_roots image
-      (subst (λ (f : Flash). IsImage (means.device old).blocks (loosened (settled_pages 2 w to) f) image) is (subst (λ (d : Device). IsImage d.blocks (loosened (settled_pages 2 w to) (means.flash b)) image) same left)))
+  pub third_leaves : (a b d : B) → Settles 0 u old a → IsSettled 0 u old a → Settles 1 v a b → IsSettled 1 v a b → Settles 2 w b d → LeavesOnly means old d Now
+  third_leaves a b d run_a ok_a run_b ok_b run_d = leaves_on means old b d Now (settled_pages 2 w to) (settled 1 v to (settled 0 u to (means.flash old)))
+      (second_leaves a b run_a ok_a run_b) (run_b.same ∙ run_a.same) (second_flash a b run_a ok_a ok_b)
+      (run_d.leaves (tells_too (run_b.same ∙ run_a.same) told))
+      (repaired_third (means.device old).blocks (means.flash old) u v w to enough spelled vote_is leads at.0 at.1 at.2 firm_roots)
 
-  pub roots_repaired : (d : B) → means.flash d ≡ with_repairs votes to (means.flash old) → Rooted to (means.flash d)
-  roots_repaired d is = subst (Rooted to) (sym is) (repaired_roots (means.device old).blocks (means.flash old) u v w to enough spelled vote_is leads at.0 at.1 at.2 firm_roots)
+  -- and what the pages spell in the end
+  pub roots_repaired : (a b d : B) → Settles 0 u old a → IsSettled 0 u old a → Settles 1 v a b → IsSettled 1 v a b → IsSettled 2 w b d → Rooted to (means.flash d)
+  roots_repaired a b d run_a ok_a run_b ok_b ok_d =
+      subst (Rooted to) (sym (ok_d (tells_too (run_b.same ∙ run_a.same) told) ∙ ap (settled 2 w to) (second_flash a b run_a ok_a ok_b)))
+      (repaired_roots (means.device old).blocks (means.flash old) u v w to enough spelled vote_is leads at.0 at.1 at.2 firm_roots)
 
 -- the pages and the work of a repair
 module _ {B : Type 0} (means : BoardMeaning B)
@@ -239,7 +254,3 @@ module _ {B : Type 0} (means : BoardMeaning B)
       touching.touches_most means
       (touching.touches_on means is_root_block (settled_pages 2 (get_or votes 2 None) to) old b d (among 2 (get_or votes 2 None) (omega arith)) (two_touches a b first second) third)
       (omega arith) (omega arith) (omega arith)
-
--- each root is read back from its page
-pub fits_page : (to : Root) → to.generation < 256 ^ 8 → to.blocks < 256 ^ 4 → root_in (root_page to) ≡ Some to
-fits_page to generation blocks = page_read to generation blocks

@@ -1,20 +1,18 @@
 -- The moments of three root pages, page by page.
 use Rattle.std.proofs.Common.{◌≡◌, inl, inr, ℕ, zero, suc, ◌*◌, ◌<◌, ◌≤◌, Bool, true, false, List, Some, refl, sym, ◌∙◌, ap, subst, arith}
 use Rattle.std.proofs.lemmas.Bool.Decides.{nat_tests}
-use Rattle.std.specs.Prelude.{IsTrue}
-use Rattle.board.specs.Device.{Device}
 use Rattle.board.specs.Flash.{Flash, IsImage, firm, loosened, pages_of_block}
-use Rattle.board.specs.Meaning.{BoardMeaning}
+use Rattle.board.specs.Meaning.{BoardMeaning, TellsFlash}
 use Rattle.board.specs.Moments.{LeavesOnly}
 use Rattle.board.proofs.Pages.{elsewhere}
-use Rattle.board.proofs.Stops.{goes_on, weaker}
+use Rattle.board.proofs.Stops.{weaker}
 use Rattle.board.proofs.Works.{tells_too}
 use Rattle.root_vote.specs.declared.root.Root.{Root}
 use Rattle.root_vote.specs.Roots.{root_in, root_page}
 use Rattle.root_vote.specs.Rooted.{FirmRoots, IsBetween, Rooted, SpellRoot, is_root_block, rewritten, with_roots}
-use Rattle.board.specs.Touches.{KeptElsewhere, Touches}
+use Rattle.board.specs.Touches.{Touches}
 use Rattle.root_vote.proofs.Choices.{choice_first, choice_last, choice_middle}
-use Rattle.root_vote.proofs.Rewriting.{rewritten_others}
+use Rattle.root_vote.proofs.Rewriting.{leaves_on, rewritten_others}
 use Rattle.board.proofs.Touching.{Within, image_since}
 
 -- each root block is among them
@@ -67,8 +65,8 @@ module _ (blocks : ℕ) (flash : Flash) (to was : Root) (enough : 3 ≤ blocks) 
   }
 
 -- the page that was made is read back
-pub spelled_page : (to : Root) (page : List ℕ) → page ≡ root_page to → root_in page ≡ Some to → root_in (root_page to) ≡ Some to
-spelled_page to page is read = ap root_in (sym is) ∙ read
+spelled_page : (to : Root) (made : List ℕ) → made ≡ root_page to → root_in made ≡ Some to → root_in (root_page to) ≡ Some to
+spelled_page to made is read = ap root_in (sym is) ∙ read
 
 -- the roots in the end
 pub roots_written : (to : Root) (flash : Flash) → root_in (root_page to) ≡ Some to → SpellRoot to (with_roots to flash).content
@@ -80,26 +78,43 @@ roots_written to flash spelled (suc (suc (suc k))) lt = absurd (omega arith)
 pub roots_in_the_end : (to : Root) (old new : Flash) → root_in (root_page to) ≡ Some to → new ≡ with_roots to old → Rooted to new
 roots_in_the_end to old new spelled is = subst (Rooted to) (sym is) (record { spelled = roots_written to old spelled; firm_roots = λ k lt. refl })
 
+-- what a stop leaves while each page is rewritten, where the pages spelled one root
 module _ {B : Type 0} (means : BoardMeaning B)
-    (old : B) (told : IsTrue (means.device old).tells_flash) (to was : Root) (enough : 3 ≤ (means.device old).blocks) (spelled : root_in (root_page to) ≡ Some to)
-    (roots : SpellRoot was (means.flash old).content) (firm_roots : FirmRoots (means.flash old)) where
+    (old : B) (told : TellsFlash means old) (to was : Root) (enough : 3 ≤ (means.device old).blocks)
+    (made : List ℕ) (is_made : made ≡ root_page to) (read : root_in made ≡ Some to) (roots : Rooted was (means.flash old)) where
   abbrev Between : (ℕ → List ℕ) → Type 0
   Between = IsBetween (means.device old).blocks (means.flash old) to was
 
   abbrev Rewrites : ℕ → B → B → Type 0
   Rewrites block a b = Touches means (pages_of_block block) 1 1 2 a b
 
+  abbrev IsRewritten : ℕ → B → B → Type 0
+  IsRewritten block a b = TellsFlash means a → means.flash b ≡ rewritten block made (means.flash a)
+
+  spelled : root_in (root_page to) ≡ Some to
+  spelled = spelled_page to made is_made read
+
+  first_flash : (a : B) → IsRewritten 0 old a → means.flash a ≡ rewritten 0 (root_page to) (means.flash old)
+  first_flash a ok = ok told ∙ ap (λ (p : List ℕ). rewritten 0 p (means.flash old)) is_made
+
+  second_flash : (a b : B) → Rewrites 0 old a → IsRewritten 0 old a → IsRewritten 1 a b
+      → means.flash b ≡ rewritten 1 (root_page to) (rewritten 0 (root_page to) (means.flash old))
+  second_flash a b run ok_a ok_b = ok_b (tells_too run.same told) ∙ ap (λ (p : List ℕ). rewritten 1 p (means.flash a)) is_made
+      ∙ ap (rewritten 1 (root_page to)) (first_flash a ok_a)
+
   pub first_leaves : (a : B) → Rewrites 0 old a → LeavesOnly means old a Between
   first_leaves a run = weaker means old a Between (IsImage (means.device old).blocks (loosened (pages_of_block 0) (means.flash old))) (run.leaves told)
-      (between_first (means.device old).blocks (means.flash old) to was enough spelled roots firm_roots)
+      (between_first (means.device old).blocks (means.flash old) to was enough spelled roots.spelled roots.firm_roots)
 
-  pub second_leaves : (a b : B) → LeavesOnly means old a Between → means.device a ≡ means.device old → means.flash a ≡ rewritten 0 (root_page to) (means.flash old) → Rewrites 1 a b → LeavesOnly means old b Between
-  second_leaves a b first same is run = goes_on means old a b Between (IsImage (means.device a).blocks (loosened (pages_of_block 1) (means.flash a))) first (run.leaves (tells_too same told))
-      (λ image left. between_second (means.device old).blocks (means.flash old) to was enough spelled roots firm_roots image
-      (subst (λ (f : Flash). IsImage (means.device old).blocks (loosened (pages_of_block 1) f) image) is (subst (λ (d : Device). IsImage d.blocks (loosened (pages_of_block 1) (means.flash a)) image) same left)))
+  pub second_leaves : (a b : B) → Rewrites 0 old a → IsRewritten 0 old a → Rewrites 1 a b → LeavesOnly means old b Between
+  second_leaves a b run_a ok_a run_b = leaves_on means old a b Between (pages_of_block 1) (rewritten 0 (root_page to) (means.flash old))
+      (first_leaves a run_a) run_a.same (first_flash a ok_a) (run_b.leaves (tells_too run_a.same told))
+      (between_second (means.device old).blocks (means.flash old) to was enough spelled roots.spelled roots.firm_roots)
 
-  pub third_leaves : (b d : B) → LeavesOnly means old b Between → means.device b ≡ means.device old → means.flash b ≡ rewritten 1 (root_page to) (rewritten 0 (root_page to) (means.flash old)) → Rewrites 2 b d
+  pub third_leaves : (a b d : B) → Rewrites 0 old a → IsRewritten 0 old a → Rewrites 1 a b → IsRewritten 1 a b → Rewrites 2 b d
       → LeavesOnly means old d Between
-  third_leaves b d second same is run = goes_on means old b d Between (IsImage (means.device b).blocks (loosened (pages_of_block 2) (means.flash b))) second (run.leaves (tells_too same told))
-      (λ image left. between_third (means.device old).blocks (means.flash old) to was enough spelled roots firm_roots image
-      (subst (λ (f : Flash). IsImage (means.device old).blocks (loosened (pages_of_block 2) f) image) is (subst (λ (d : Device). IsImage d.blocks (loosened (pages_of_block 2) (means.flash b)) image) same left)))
+  third_leaves a b d run_a ok_a run_b ok_b run_d = leaves_on means old b d Between (pages_of_block 2)
+      (rewritten 1 (root_page to) (rewritten 0 (root_page to) (means.flash old)))
+      (second_leaves a b run_a ok_a run_b) (run_b.same ∙ run_a.same) (second_flash a b run_a ok_a ok_b)
+      (run_d.leaves (tells_too (run_b.same ∙ run_a.same) told))
+      (between_third (means.device old).blocks (means.flash old) to was enough spelled roots.spelled roots.firm_roots)

@@ -1,5 +1,5 @@
 -- What a turn of a session makes of the reader's answer.
-use Rattle.std.proofs.Common.{◌≡◌, ℕ, ◌≤◌, ◌++◌, drop, Option, Some, None, Result, Ok, Err, ◌∙◌, ap, subst}
+use Rattle.std.proofs.Common.{◌≡◌, ℕ, ◌++◌, drop, Option, Some, None, Result, Ok, Err, ◌∙◌, ap, subst}
 use Rattle.std.specs.Prelude.{IsTrue}
 use Rattle.board.specs.Counts.{Rose}
 use Rattle.board.specs.Meaning.{BoardMeaning, SourceMeaning}
@@ -10,10 +10,12 @@ use Rattle.pst_model.specs.declared.faults.LineFault.{LineFault}
 use Rattle.session_text.specs.Lending.{MovesOn, Reader, Tells, empty_takes, next_at}
 use Rattle.session_text.specs.Shown.{command_of}
 use Rattle.pst_model.specs.Text.{size_of_next}
-use Rattle.station.specs.declared.ending.Ending.TheVariants.{Done, BadLine, SourceFault}
-use Rattle.station.specs.Session.{Carried, Ended}
+use Rattle.station.specs.declared.ending.Ending.TheVariants.{Done, BadLine, LinkFault, NoMemory, SourceFault}
+use Rattle.station.specs.Session.{Carried, Ended, IsStoredArrival}
+use Rattle.pst_model.specs.Run.{step}
 use Rattle.pst_model.specs.Table.{Table}
-use Rattle.station.proofs.Turns.{Advances, Asks, ended_bad, ended_done, ended_source}
+use Rattle.handler.specs.Sending.{BreaksIn, SendsLines}
+use Rattle.station.proofs.Turns.{Advances, Asks, ended_bad, ended_done, ended_link, ended_memory, ended_source, goes_further}
 
 -- the answer of a reader, and what it left
 module _ {S : Type 0} (input : SourceMeaning S) (reader reader' : Reader) (source source' : S) (result : Result (Option View) LineEnd)
@@ -27,7 +29,7 @@ module _ {S : Type 0} (input : SourceMeaning S) (reader reader' : Reader) (sourc
       → Tells command_of reader (next_at reader (input.left source)) answer
   next_as answer is told = subst (λ (r : Result (Option View) LineEnd). Tells command_of reader (next_at reader (input.left source)) r) is (next told)
 
-  pub advances : (command : View) → result ≡ Ok (Some command) → Advances input reader reader' source source' (command_of command)
+  advances : (command : View) → result ≡ Ok (Some command) → Advances input reader reader' source source' (command_of command)
   advances command is =
       let moved = moves_as (Ok (Some command)) is in
       record {
@@ -48,7 +50,7 @@ module _ {S : Type 0} (input : SourceMeaning S) (reader reader' : Reader) (sourc
       → reader'.pending ++ input.left source' ≡ reader.pending ++ input.left source
   at_error end is told = (moves_as (Err end) is).text told
 
-  pub asks_as : (answer : Result (Option View) LineEnd) → result ≡ answer → Asks input source source' (empty_takes answer)
+  asks_as : (answer : Result (Option View) LineEnd) → result ≡ answer → Asks input source source' (empty_takes answer)
   asks_as answer is = subst (λ (r : Result (Option View) LineEnd). Asks input source source' (empty_takes r)) is asks
 
   module _ {B : Type 0} (means : BoardMeaning B) (first board : B) (origin : S) (table : Table)
@@ -67,3 +69,20 @@ module _ {S : Type 0} (input : SourceMeaning S) (reader reader' : Reader) (sourc
     source_by is rose =
         ended_source means input first board origin source reader table carried source' reader'.pending
         (at_error ends.Source is) (asks_as (Err ends.Source) is) (moves_as (Err ends.Source) is).unended rose
+
+    -- the command was carried out, the link failed within it, or there was no memory for it
+    module _ (command : View) (is : result ≡ Ok (Some command)) (kept : input.faults source' ≡ input.faults source) where
+      pub carried_by : (board' : B) (table' : Table) → ((number : ℕ) → table' ≡ (step number (command_of command) table).table)
+          → ((number : ℕ) → SendsLines means board board' (step number (command_of command) table).outputs)
+          → Carried means input first board' origin source' reader' table'
+      carried_by = goes_further means input first board origin source reader table carried source' reader' (command_of command)
+          (advances command is) (asks_as (Ok (Some command)) is) kept
+
+      pub link_by : (board' : B) → ((number : ℕ) → BreaksIn means board board' (step number (command_of command) table).outputs)
+          → Ended means input first board' origin source' LinkFault
+      link_by = ended_link means input first board origin source reader table carried source' reader' (command_of command)
+          (advances command is) (asks_as (Ok (Some command)) is) kept
+
+      pub memory_by : IsStoredArrival (command_of command) table → Ended means input first board origin source' NoMemory
+      memory_by = ended_memory means input first board origin source reader table carried source' reader' (command_of command)
+          (advances command is) (asks_as (Ok (Some command)) is) kept

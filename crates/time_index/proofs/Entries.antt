@@ -1,12 +1,13 @@
 -- Entries in a ring.
-use Rattle.std.proofs.Common.{◌≡◌, ℕ, zero, suc, ◌+◌, ◌-◌, ◌*◌, ◌<◌, ◌≤◌, Bool, true, false, cond, List, [], ◌∷◌, ◌++◌, length, drop, take, get_or, refl, ap, ◌∙◌, subst, arith, length-append}
-use Rattle.std.specs.Prelude.{IfSome, count_by, nat_le, nat_lt, slice_get, slice_set, Some}
-use Rattle.std.specs.List.Sorted.{IsNonDecreasingBy}
-use Rattle.std.proofs.lemmas.Bool.{lt-ltb, le-ltb, lt-leb, le-leb}
+use Rattle.std.proofs.Common.{◌≡◌, ℕ, zero, suc, ◌+◌, ◌-◌, ◌*◌, ◌<◌, ◌≤◌, Bool, true, false, cond, List, [], ◌∷◌, ◌++◌, length, drop, take, get_or, refl, ap, ◌∙◌, subst, sym, arith, length-append}
+use Rattle.std.specs.Prelude.{IfSome, count_by, slice_get, slice_set, Some}
+use Rattle.std.specs.List.Sorted.{IsPartitionPoint}
+use Rattle.std.proofs.Math.Seq.{drop-append_seam}
 use Rattle.std.proofs.lemmas.Option.{get_or_from_slice_get, slice_get-get_or}
+use Rattle.std.proofs.lemmas.List.Sorted.{IsNonDecreasingBy-drop}
 use Rattle.space_packet.specs.Charge.{charge_of}
 use Rattle.time_index.specs.declared.entry.Entry.{Entry}
-use Rattle.time_index.specs.TimeIndex.{HasLengthAt, HaveLengths, count_below, count_up_to, pages_of, stamp_of}
+use Rattle.time_index.specs.TimeIndex.{HasLengthAt, HaveLengths, IsInOrder, pages_of, stamp_of}
 use Rattle.std.specs.List.{AllWithin}
 use Rattle.std.proofs.lemmas.List.Sums.{sum_by-cons, sum_by-le, sum_by-set, sum_by_more, sum_by_more_le}
 use Rattle.circular_buffer.specs.Buffer.{keep_last}
@@ -46,50 +47,16 @@ count_by-split p (x ∷ xs) (suc i) le low high =
     sum_by-cons (λ x. cond (p x) 1 0) x xs in
     step ∙ rw head (omega (arith, rest))
 
-module _ (xs : List Entry) (m : ℕ) (e : Entry) (t : ℕ)
-    (up : IsNonDecreasingBy stamp_of xs) (at : slice_get xs m ≡ Some e) (within : m < length xs) where
-  -- what an entry before t says of those up to it
-  pub before_from_middle : stamp_of e < t
-      → (k : ℕ) (d : Entry) → k < m + 1 → stamp_of (get_or xs k d) < t
-  before_from_middle h k d le =
-      omega (arith, up k m d (omega arith) within, ap stamp_of (get_or_from_slice_get xs m e d at))
+-- what is counted where those that pass a test stand in front
+pub count_by-point : {X : Type 0} (p : X → Bool) (xs : List X) (i : ℕ) → i ≤ length xs
+    → IsPartitionPoint (λ x. p x ≡ true) (λ x. p x ≡ false) xs i → i ≡ count_by p xs
+count_by-point p xs i within point = sym (count_by-split p xs i within point.0 point.1)
 
-  -- and what an entry not before it says of those from it on
-  pub after_from_middle : t ≤ stamp_of e
-      → (k : ℕ) (d : Entry) → m ≤ k → k < length xs → t ≤ stamp_of (get_or xs k d)
-  after_from_middle h k d le end =
-      omega (arith, up m k d le end, ap stamp_of (get_or_from_slice_get xs m e d at))
-
--- the same of an entry at or before t, and of one after it
-module _ (xs : List Entry) (m : ℕ) (e : Entry) (t : ℕ)
-    (up : IsNonDecreasingBy stamp_of xs) (at : slice_get xs m ≡ Some e) (within : m < length xs) where
-  pub up_to_from_middle : stamp_of e ≤ t
-      → (k : ℕ) (d : Entry) → k < m + 1 → stamp_of (get_or xs k d) ≤ t
-  up_to_from_middle h k d le =
-      omega (arith, before_from_middle xs m e (t + 1) up at within (omega arith) k d le)
-
-  pub beyond_from_middle : t < stamp_of e
-      → (k : ℕ) (d : Entry) → m ≤ k → k < length xs → t < stamp_of (get_or xs k d)
-  beyond_from_middle h k d le end =
-      omega (arith, after_from_middle xs m e (t + 1) up at within (omega arith) k d le end)
-
--- how many are before t
-pub count_before : (xs : List Entry) (i t : ℕ) → i ≤ length xs
-    → ((k : ℕ) (d : Entry) → k < i → stamp_of (get_or xs k d) < t)
-    → ((k : ℕ) (d : Entry) → i ≤ k → k < length xs → t ≤ stamp_of (get_or xs k d))
-    → count_below xs t ≡ i
-count_before xs i t le low high =
-    count_by-split (λ e. nat_lt (stamp_of e) t) xs i le
-    (λ k d a b. lt-ltb _ _ (low k d b)) (λ k d a b. le-ltb _ _ (high k d a b))
-
--- how many are at or before t
-pub count_at_most : (xs : List Entry) (i t : ℕ) → i ≤ length xs
-    → ((k : ℕ) (d : Entry) → k < i → stamp_of (get_or xs k d) ≤ t)
-    → ((k : ℕ) (d : Entry) → i ≤ k → k < length xs → t < stamp_of (get_or xs k d))
-    → count_up_to xs t ≡ i
-count_at_most xs i t le low high =
-    count_by-split (λ e. nat_le (stamp_of e) t) xs i le
-    (λ k d a b. le-leb _ _ (low k d b)) (λ k d a b. lt-leb _ _ (high k d a b))
+-- the second of two runs that are in order together is in order
+pub in_order-back : (xs ys zs : List Entry) → xs ++ ys ≡ zs → IsInOrder zs → IsInOrder ys
+in_order-back xs ys zs is up =
+    subst IsInOrder (ap (drop (length xs)) (sym is) ∙ drop-append_seam xs ys)
+    (IsNonDecreasingBy-drop stamp_of (length xs) zs up)
 
 -- what one entry costs
 abbrev pub cost : Entry → ℕ

@@ -1,5 +1,5 @@
 // The entries, and the number of the first record, with no sum kept beside them.
-ghost use Rattle.std.specs.Prelude.{Some, ◌≡◌, ◌<◌, ◌≤◌, [], length, take, slice_get, slice_index_or, IfOk};
+ghost use Rattle.std.specs.Prelude.{Some, ◌≡◌, ◌<◌, ◌≤◌, ◌+◌, ◌++◌, [], length, nat_le, nat_lt, take, slice_get, slice_index_or, IfOk};
 ghost use Rattle.time_index.specs.declared.entry.Entry.{Entry};
 ghost use Rattle.time_index.specs.TimeIndex.{EndsBy, HaveLengths, IsInOrder, count_below, count_up_to, pages_of, stamp_of, with_entry, with_entry_at, without_first};
 
@@ -141,33 +141,51 @@ impl Ring {
     pub fn first_at(&self, t: u64) -> u32
         ensures { result ≡ count_below self.now.entries t }
     {
-        let mut low = 0u32;
-        let mut high = self.len();
-        'halves: while low < high {
-            let middle = low + (high - low) / 2;
-            if self.entry(middle).stamp < t {
-                low = middle + 1;
-            } else {
-                high = middle;
-            }
-        }
-        low
+        let (front, back) = self.runs();
+        (count_below(front, t) + count_below(back, t)) as u32
     }
 
     /// How many entries have a stamp of at most `t`, found by halving.
     pub fn first_after(&self, t: u64) -> u32
         ensures { result ≡ count_up_to self.now.entries t }
     {
-        let mut low = 0u32;
-        let mut high = self.len();
-        'halves: while low < high {
-            let middle = low + (high - low) / 2;
-            if self.entry(middle).stamp <= t {
-                low = middle + 1;
-            } else {
-                high = middle;
-            }
-        }
-        low
+        let (front, back) = self.runs();
+        (count_up_to(front, t) + count_up_to(back, t)) as u32
     }
+
+    // The entries as two slices, one behind the other: the ring goes round the end of its room.
+    fn runs(&self) -> (&[Entry], &[Entry])
+        ensures all { result.0.now ++ result.1.now ≡ self.now.entries }
+        ensures front { IsInOrder result.0.now }
+        ensures back { IsInOrder result.1.now }
+        ensures many { length result.0.now + length result.1.now ≤ 100000 }
+    {
+        self.entries.as_slices()
+    }
+}
+
+// How many entries of a slice in order have a stamp below `t`.
+fn count_below(entries: &[Entry], t: u64) -> usize
+    requires { IsInOrder entries.now }
+    ensures count { result ≡ count_below entries.now t }
+    ensures within { result ≤ length entries.now }
+{
+    entries.partition_point(
+        |entry: &Entry| -> bool
+            ensures { result ≡ nat_lt (stamp_of entry.now) t }
+        { entry.stamp < t },
+    )
+}
+
+// How many entries of a slice in order have a stamp of at most `t`.
+fn count_up_to(entries: &[Entry], t: u64) -> usize
+    requires { IsInOrder entries.now }
+    ensures count { result ≡ count_up_to entries.now t }
+    ensures within { result ≤ length entries.now }
+{
+    entries.partition_point(
+        |entry: &Entry| -> bool
+            ensures { result ≡ nat_le (stamp_of entry.now) t }
+        { entry.stamp <= t },
+    )
 }

@@ -1,15 +1,16 @@
 -- What a text that comes in short pieces means, and what its calls change.
-use Rattle.std.specs.Prelude.{◌≡◌, ◌+◌, ℕ, Bool, true, List, Option, None, drop, min}
+use Rattle.std.specs.Prelude.{◌≡◌, ◌+◌, ℕ, Bool, true, List, Option, None, min}
 use Rattle.board.specs.Meaning.{SourceMeaning}
+use Rattle.board.specs.MemorySource as text
 use Rattle.trials.specs.declared.short_source.ShortSource.{ShortSource}
 
 -- it tells what is left
 abbrev pub tells_left : ShortSource → Bool
-tells_left source = true
+tells_left source = text.tells_left source.text
 
 -- the octets that are still to come
 abbrev pub left_of : ShortSource → List ℕ
-left_of source = drop source.at source.bytes.items
+left_of source = text.left_of source.text
 
 -- the most octets that a take gives
 abbrev pub most_of : ShortSource → ℕ
@@ -17,15 +18,15 @@ most_of source = source.most
 
 -- how many takes there were, those that failed among them
 abbrev pub takes_made : ShortSource → ℕ
-takes_made source = source.made
+takes_made source = text.takes_made source.text
 
 -- the number of the take that is to fail
 abbrev pub planned_take : ShortSource → Option ℕ
-planned_take source = source.planned
+planned_take source = text.planned_take source.text
 
 -- how often it has failed
 abbrev pub faults_of : ShortSource → ℕ
-faults_of source = source.faults
+faults_of source = text.faults_of source.text
 
 -- all of it as one value
 abbrev pub short_means : SourceMeaning ShortSource

@@ -3,18 +3,13 @@
 ghost use Rattle.std.specs.Prelude.{◌≡◌, ◌≤◌, ◌<◌, ◌+◌, ◌++◌, ◌↔◌, ℕ, [], length, min, take, IfOk, IsErr, IsTrue, OnErr, OnOk, Some};
 ghost use Rattle.board.specs.Counts.{Rose};
 
-use board::{Failed, Source};
+use board::{Failed, MemSource, Source};
 
 /// A text in memory, taken from its front, at most so many octets a take.
 #[derive(Drop)]
 pub struct ShortSource {
-    bytes: Vec<u8>,
-    at: usize,
+    text: MemSource,
     most: usize,
-    made: u64,
-    faults: u64,
-    planned: Option<u64>,
-    ghost within: { at ≤ length bytes.items },
     ghost some: { 0 < most },
 }
 
@@ -27,12 +22,8 @@ impl ShortSource {
         ensures { IsNewSource bytes.items most result }
     {
         ShortSource {
-            bytes,
-            at: 0,
+            text: MemSource::new(bytes),
             most,
-            made: 0,
-            faults: 0,
-            planned: None,
         }
     }
 
@@ -42,7 +33,7 @@ impl ShortSource {
         ensures planned { planned_take self.new ≡ Some number }
         ensures same { SameButPlan self.old self.new }
     {
-        self.planned = Some(number);
+        self.text.plan(number);
     }
 }
 
@@ -75,15 +66,7 @@ impl Source for ShortSource {
         ensures exact { IfOk result (λ count.
             count ≡ min (min (length into.old) (most_of self.old)) (length (left_of self.old))) }
     {
-        self.made = self.made.saturating_add(1);
-        if self.planned == Some(self.made) {
-            self.faults = self.faults.saturating_add(1);
-            return Err(Failed);
-        }
         let room = into.len().min(self.most);
-        let count = room.min(self.bytes.len() - self.at);
-        into[..count].copy_from_slice(&self.bytes[self.at..self.at + count]);
-        self.at += count;
-        Ok(count)
+        self.text.take(&mut into[..room])
     }
 }

@@ -1,12 +1,11 @@
-use Rattle.std.proofs.Common.{subst, sym, ◌∙◌, ap, Ok, Err, Some}
+use Rattle.std.proofs.Common.{subst, sym, ◌∙◌, ap, Ok, Err}
 use Rattle.session_text.specs.declared.fault.LineEnd.TheVariants.{Bad}
 use Rattle.session_text.specs.Lending.{empty_takes, reader_of}
-use Rattle.session_text.specs.Shown.{command_of}
 use Rattle.handler.specs.Handler.{table_in}
 use Rattle.station.specs.declared.ending.Ending.TheVariants.{NoMemory}
 use Rattle.station.specs.Session.{Ended}
-use Rattle.station.proofs.Answered.{advances, asks_as, bad_by, done_by, source_by}
-use Rattle.station.proofs.Turns.{Asks, ended_link, ended_memory, goes_further}
+use Rattle.station.proofs.Answered.{bad_by, carried_by, done_by, link_by, memory_by, source_by}
+use Rattle.station.proofs.Turns.{Asks}
 use Rattle.station.proofs.session.take_turn.Given.{Over}
 use Rattle.station.proofs.session.take_turn.Goals as goal
 use Rattle.station.proofs.session.take_turn.Goals.{After-next_line}
@@ -44,43 +43,25 @@ returns-in-Err-Source-clause-ends g c first origin carried =
 pub returns-in-Ok-clause-goes_on : goal.returns-in-Ok-clause-goes_on
 returns-in-Ok-clause-goes_on g c first origin carried =
     let at = goal.at.returns-in-Ok-clause-goes_on g c in
-    let means = g.B.Board.means in
-    let input = g.S.Source.means in
-    let is = c.in-Ok-Some.is ∙ ap Ok c.in-Ok-Some.field-0-is in
-    let reads = advances input (reader_of c.args.lines.now) (reader_of c.next_line.follows.lender-at-none) c.args.source.now c.next_line.new.source c.next_line.result
-    c.next_line.follows.holds-at-none c.next_line.ensures.next (asks g at.After-next_line) c.in-Ok-Some.command is in
-    let asked = asks_as input (reader_of c.args.lines.now) (reader_of c.next_line.follows.lender-at-none) c.args.source.now c.next_line.new.source c.next_line.result
-    c.next_line.follows.holds-at-none c.next_line.ensures.next (asks g at.After-next_line) (Ok (Some c.in-Ok-Some.command)) is in
-    goes_further means input first c.args.board.now origin c.args.source.now (reader_of c.args.lines.now) (table_in c.args.handler.now)
-    carried c.next_line.new.source (reader_of c.next_line.follows.lender-at-none) (command_of c.in-Ok-Some.command) reads asked c.in-Ok-Some.ensures.no_fault
+    carried_by g.S.Source.means (reader_of c.args.lines.now) (reader_of c.next_line.follows.lender-at-none) c.args.source.now c.next_line.new.source c.next_line.result
+    c.next_line.follows.holds-at-none c.next_line.ensures.next (asks g at.After-next_line) g.B.Board.means first c.args.board.now origin (table_in c.args.handler.now)
+    carried c.in-Ok-Some.command (c.in-Ok-Some.is ∙ ap Ok c.in-Ok-Some.field-0-is) c.in-Ok-Some.ensures.no_fault
     c.carry_out.new.board (table_in c.carry_out.new.handler) c.in-Ok.ensures.done.table c.in-Ok.ensures.done.sends
 
 pub returns-in-Err-Link-clause-ends : goal.returns-in-Err-Link-clause-ends
 returns-in-Err-Link-clause-ends g c first origin carried =
     let at = goal.at.returns-in-Err-Link-clause-ends g c in
-    let means = g.B.Board.means in
-    let input = g.S.Source.means in
-    let is = c.in-Ok-Some.is ∙ ap Ok c.in-Ok-Some.field-0-is in
-    let reads = advances input (reader_of c.args.lines.now) (reader_of c.next_line.follows.lender-at-none) c.args.source.now c.next_line.new.source c.next_line.result
-    c.next_line.follows.holds-at-none c.next_line.ensures.next (asks g at.After-next_line) c.in-Ok-Some.command is in
-    let asked = asks_as input (reader_of c.args.lines.now) (reader_of c.next_line.follows.lender-at-none) c.args.source.now c.next_line.new.source c.next_line.result
-    c.next_line.follows.holds-at-none c.next_line.ensures.next (asks g at.After-next_line) (Ok (Some c.in-Ok-Some.command)) is in
-    ended_link means input first c.args.board.now origin c.args.source.now (reader_of c.args.lines.now) (table_in c.args.handler.now)
-    carried c.next_line.new.source (reader_of c.next_line.follows.lender-at-none) (command_of c.in-Ok-Some.command) reads asked c.in-Ok-Some.ensures.no_fault
+    link_by g.S.Source.means (reader_of c.args.lines.now) (reader_of c.next_line.follows.lender-at-none) c.args.source.now c.next_line.new.source c.next_line.result
+    c.next_line.follows.holds-at-none c.next_line.ensures.next (asks g at.After-next_line) g.B.Board.means first c.args.board.now origin (table_in c.args.handler.now)
+    carried c.in-Ok-Some.command (c.in-Ok-Some.is ∙ ap Ok c.in-Ok-Some.field-0-is) c.in-Ok-Some.ensures.no_fault
     c.carry_out.new.board (rw c.in-Err-Link.field-0-is at c.in-Err-Link.ensures.breaks)
 
 pub returns-in-Err-NoMemory-clause-ends : goal.returns-in-Err-NoMemory-clause-ends
 returns-in-Err-NoMemory-clause-ends g c first origin carried =
     let at = goal.at.returns-in-Err-NoMemory-clause-ends g c in
-    let means = g.B.Board.means in
-    let input = g.S.Source.means in
-    let is = c.in-Ok-Some.is ∙ ap Ok c.in-Ok-Some.field-0-is in
-    let reads = advances input (reader_of c.args.lines.now) (reader_of c.next_line.follows.lender-at-none) c.args.source.now c.next_line.new.source c.next_line.result
-    c.next_line.follows.holds-at-none c.next_line.ensures.next (asks g at.After-next_line) c.in-Ok-Some.command is in
-    let asked = asks_as input (reader_of c.args.lines.now) (reader_of c.next_line.follows.lender-at-none) c.args.source.now c.next_line.new.source c.next_line.result
-    c.next_line.follows.holds-at-none c.next_line.ensures.next (asks g at.After-next_line) (Ok (Some c.in-Ok-Some.command)) is in
     let unused = rw c.in-Err-NoMemory.field-0-is at c.in-Err-NoMemory.ensures.nothing in
-    subst (λ b. Ended means input first b origin c.next_line.new.source NoMemory) (sym unused)
-    (ended_memory means input first c.args.board.now origin c.args.source.now (reader_of c.args.lines.now) (table_in c.args.handler.now)
-    carried c.next_line.new.source (reader_of c.next_line.follows.lender-at-none) (command_of c.in-Ok-Some.command) reads asked c.in-Ok-Some.ensures.no_fault
+    subst (λ b. Ended g.B.Board.means g.S.Source.means first b origin c.next_line.new.source NoMemory) (sym unused)
+    (memory_by g.S.Source.means (reader_of c.args.lines.now) (reader_of c.next_line.follows.lender-at-none) c.args.source.now c.next_line.new.source c.next_line.result
+    c.next_line.follows.holds-at-none c.next_line.ensures.next (asks g at.After-next_line) g.B.Board.means first c.args.board.now origin (table_in c.args.handler.now)
+    carried c.in-Ok-Some.command (c.in-Ok-Some.is ∙ ap Ok c.in-Ok-Some.field-0-is) c.in-Ok-Some.ensures.no_fault
     (rw c.in-Err-NoMemory.field-0-is at c.in-Err-NoMemory.ensures.stored))
