@@ -1,5 +1,5 @@
 -- Kinds of store, and instructions whose parts are within their ranges.
-use Rattle.std.specs.Prelude.{ℕ, ◌<◌, ◌^◌}
+use Rattle.std.specs.Prelude.{ℕ, ◌<◌, ◌^◌, ◌==◌, if◌then◌else◌}
 use Rattle.control_defs.specs.declared.instructions.Instruction.{Instruction}
 use Rattle.control_defs.specs.declared.instructions.Instruction.TheVariants.{ForwardAdd, ForwardDelete, AddTypes, DeleteTypes, StartRange, DeleteUpTo, OpenFrom, Copy}
 use Rattle.control_defs.specs.declared.instructions.StoreKind.{StoreKind}
@@ -10,6 +10,10 @@ use Rattle.control_defs.specs.Patterns.{IsPattern}
 abbrev pub kind_octet : StoreKind → ℕ
 kind_octet Circular = 0
 kind_octet Bounded = 1
+
+-- the kind of store by its octet
+abbrev pub store_kind_in : (octet : ℕ) → StoreKind
+store_kind_in octet = if octet == 0 then Circular else Bounded
 
 -- its patterns are patterns, and its times have 48 bits
 abbrev pub IsInstruction : Instruction → Type 0

@@ -1,6 +1,6 @@
 -- Lists of patterns: sorted, and none covers another.
-use Rattle.std.specs.Prelude.{◌≡◌, ◌≤◌, ◌++◌, ℕ, Bool, false, not, if◌then◌else◌, List, ◌∷◌, length, filter, All, AllPairs}
-use Rattle.std.specs.List.{AllWithin, list_any}
+use Rattle.std.specs.Prelude.{◌≡◌, ◌≤◌, ◌++◌, ℕ, Bool, true, false, not, ◌&&◌, nat_le, if◌then◌else◌, List, [], ◌∷◌, length, filter, All, AllPairs}
+use Rattle.std.specs.List.{AllWithin, list_all, list_any}
 use Rattle.std.specs.Ordering.{is_eq, is_lt, nat_cmp, ordering_then}
 use Rattle.std.specs.declared.cmp.Ordering.{Ordering}
 use Rattle.std.specs.declared.cmp.Ordering.TheVariants.{Less, Greater}
@@ -98,3 +98,17 @@ without_pattern pattern patterns =
 -- whether a pattern itself stands in a list
 abbrev pub is_standing : Pattern → List Pattern → Bool
 is_standing pattern patterns = list_any (λ other. is_eq (pattern_cmp pattern other)) patterns
+
+-- Whether a pattern may stand in a list in front of another one: it is before it, and neither covers
+-- the other.
+abbrev pub may_precede : Pattern → Pattern → Bool
+may_precede p q = is_before p q && (not (pattern_covers p q) && not (pattern_covers q p))
+
+-- whether each pattern may stand in front of each behind it
+abbrev pub are_in_order : List Pattern → Bool
+are_in_order [] = true
+are_in_order (p ∷ patterns) = list_all (may_precede p) patterns && are_in_order patterns
+
+-- whether a list of patterns may be kept
+abbrev pub is_pattern_list : List Pattern → Bool
+is_pattern_list patterns = nat_le (length patterns) 64 && are_in_order patterns

@@ -7,13 +7,13 @@ use Rattle.std.specs.Prelude.{nat_lt}
 use Rattle.octet_fields.specs.Fields.{big_bytes, field}
 use Rattle.control_defs.specs.declared.instructions.Instruction.{Instruction}
 use Rattle.control_defs.specs.declared.instructions.Instruction.TheVariants.{StartRange, Create, Copy, Resize, Channel}
-use Rattle.control_defs.specs.Instructions.{kind_octet, IsInstruction}
+use Rattle.control_defs.specs.Instructions.{store_kind_in, kind_octet, IsInstruction}
 use Rattle.control_defs.specs.declared.patterns.Pattern.{Pattern}
 use Rattle.control_defs.specs.Patterns.{HasPatternOctets, IsPattern}
 use Rattle.pst_model.specs.Items.{HasOctets, is_alone, item_of, kind_asked}
-use Rattle.pst_model.specs.Layouts.{Field, OneKind, OnePattern, RequestKind, alone, channel_field, is_wrong_in, is_wrong_in_field, list_of, size_field, store_field, store_kind_in, time_field, width_of, width_of_field}
+use Rattle.pst_model.specs.Layouts.{Field, OneKind, OnePattern, RequestKind, alone, channel_field, is_wrong_in, is_wrong_in_field, list_of, size_field, store_field, time_field, width_of, width_of_field}
 use Rattle.control_defs.specs.PatternOctets.{pattern_octets}
-use Rattle.pst_model.specs.PatternOctets.{pattern_in}
+use Rattle.control_defs.specs.PatternOctets.{pattern_in}
 use Rattle.pst_model.proofs.ItemOctets.{AreOctets, Stands-number, Stands-octet, Stands-then, field-lt, octet-lt}
 use Rattle.pst_model.proofs.PatternItems.{ReadsPattern-right, Stands-pattern}
 

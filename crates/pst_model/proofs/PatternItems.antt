@@ -9,7 +9,7 @@ use Rattle.control_defs.specs.declared.patterns.Pattern.{Pattern}
 use Rattle.control_defs.specs.declared.patterns.Pattern.TheVariants.{Every, App, Service, Kind}
 use Rattle.control_defs.specs.Patterns.{HasPatternOctets, IsPattern}
 use Rattle.control_defs.specs.PatternOctets.{pattern_octets}
-use Rattle.pst_model.specs.PatternOctets.{apid_in, form_in, is_wrong_in_pattern, pattern_in, used_by}
+use Rattle.control_defs.specs.PatternOctets.{apid_in, form_in, is_wrong_in_pattern, pattern_in, used_by}
 use Rattle.pst_model.proofs.ItemOctets.{AreOctets, Stands}
 
 -- none of the five octets at the front is wrong

@@ -4,9 +4,8 @@ use Rattle.std.specs.Prelude.{◌+◌, ◌-◌, ◌==◌, ◌&&◌, ℕ, Bool, t
 use Rattle.octet_fields.specs.Fields.{field}
 use Rattle.control_defs.specs.declared.instructions.Instruction.{Instruction}
 use Rattle.control_defs.specs.declared.instructions.Instruction.TheVariants.{ForwardAdd, ForwardDelete, ForwardReport, Enable, Disable, AddTypes, DeleteTypes, ReportTypes, StartRange, DeleteUpTo, Summary, OpenFrom, Resume, Suspend, Abort, Status, Create, Remove, Configuration, Copy, Resize, ToCircular, ToBounded, Channel}
-use Rattle.control_defs.specs.declared.instructions.StoreKind.{StoreKind}
-use Rattle.control_defs.specs.declared.instructions.StoreKind.TheVariants.{Circular, Bounded}
-use Rattle.pst_model.specs.PatternOctets.{is_wrong_in_pattern, pattern_in}
+use Rattle.control_defs.specs.Instructions.{store_kind_in}
+use Rattle.control_defs.specs.PatternOctets.{is_wrong_in_pattern, pattern_in}
 
 -- A field of an item: so many octets, any of which may stand there, a pattern, or what a store does
 -- when it is full.
@@ -38,10 +37,6 @@ width_of_field OneKind = 1
 abbrev pub width_of : List Field → ℕ
 width_of [] = 0
 width_of (first ∷ others) = width_of_field first + width_of others
-
--- what a store does when it is full, by its octet
-abbrev pub store_kind_in : (octet : ℕ) → StoreKind
-store_kind_in octet = if octet == 0 then Circular else Bounded
 
 -- whether the octet at this place of a field is wrong
 abbrev pub is_wrong_in_field : Field → List ℕ → (place : ℕ) → Bool

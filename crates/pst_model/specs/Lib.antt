@@ -9,7 +9,6 @@ pub mod Laws
 pub mod Layouts
 pub mod Least
 pub mod Output
-pub mod PatternOctets
 pub mod ReadBack
 pub mod Reports
 pub mod Requests

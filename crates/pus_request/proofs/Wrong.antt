@@ -5,7 +5,7 @@ use Rattle.std.proofs.lemmas.List.{drop-drop}
 use Rattle.std.specs.Prelude.{MatchOption, if◌then◌else◌, is_some, nat_lt}
 use Rattle.pst_model.specs.Layouts.{OnePattern, RequestKind, is_wrong_in, store_field, width_of}
 use Rattle.pst_model.specs.Least.{first_below, least}
-use Rattle.pst_model.specs.PatternOctets.{is_wrong_in_pattern}
+use Rattle.control_defs.specs.PatternOctets.{is_wrong_in_pattern}
 use Rattle.pst_model.specs.Requests.{is_wrong_at, place_of}
 use Rattle.pst_model.proofs.KindsRead.{IsRight}
 use Rattle.pst_model.proofs.Leasts.{none-below}

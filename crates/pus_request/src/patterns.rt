@@ -1,7 +1,7 @@
 // Patterns in the five octets of an item's field.
 ghost use Rattle.std.specs.Prelude.{◌≡◌, ◌+◌, ◌-◌, ◌≤◌, MatchOption, None, Some, length, drop};
 ghost use Rattle.pst_model.specs.Least.{first_below};
-ghost use Rattle.pst_model.specs.PatternOctets.{is_wrong_in_pattern, pattern_in};
+ghost use Rattle.control_defs.specs.PatternOctets.{is_wrong_in_pattern, pattern_in};
 
 use control_defs::Pattern;
 use octet_fields::u16_at;

@@ -1,6 +1,7 @@
 // Items of the data of a request, and the instructions that they spell.
 ghost use Rattle.std.specs.Prelude.{◌≡◌, ◌+◌, ◌-◌, ◌≤◌, ◌<◌, MatchOption, None, Some, length, drop, slice_index};
-ghost use Rattle.pst_model.specs.Layouts.{is_wrong_in, store_kind_in, width_of};
+ghost use Rattle.control_defs.specs.Instructions.{store_kind_in};
+ghost use Rattle.pst_model.specs.Layouts.{is_wrong_in, width_of};
 ghost use Rattle.pst_model.specs.Least.{first_below};
 ghost use Rattle.pus_request.specs.Kinds.{row_of};
 

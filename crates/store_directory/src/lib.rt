@@ -1,0 +1,9 @@
+//! The directory of the packet stores: what is known of each store without its packets, the blocks
+//! in which these lie, and the changes of it that a journal holds; and their octets.
+#![tactic(auto)]
+
+mod change;
+mod row;
+
+pub use change::Change;
+pub use row::Row;
