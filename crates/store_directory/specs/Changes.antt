@@ -1,5 +1,6 @@
 -- Changes of a directory, and when they fit.
 use Rattle.std.specs.Prelude.{◌≡◌, ◌<◌, ◌^◌, ℕ, Bool, true, false, ◌&&◌, nat_le, nat_lt, List, [], ◌∷◌, ◌++◌, length, Option, Some, None}
+use Rattle.std.specs.Option.{option_map}
 use Rattle.block_pool.specs.Sizes.{blocks_for_size}
 use Rattle.control_defs.specs.Lists.{is_standing, with_pattern, without_pattern}
 use Rattle.control_defs.specs.declared.patterns.Pattern.{Pattern}
@@ -51,34 +52,58 @@ may_stand new stores =
     is_lawful_row new.row && nat_le (length stores) 32 && nat_le (reserved_by stores) 504
     && nat_le (length new.links) (blocks_for_size new.size)
 
+-- stores with a row put among them
+abbrev pub put_row : Row → List Listed → Option (List Listed)
+put_row row stores =
+    let new = listed_by row (find_store row.identifier stores) in do
+      _ ← given (may_stand new (put_store new stores))
+      Some (put_store new stores)
+
+-- stores without the one of an identifier
+abbrev pub remove_store : (identifier : ℕ) → List Listed → Option (List Listed)
+remove_store identifier stores = do
+  _ ← find_store identifier stores
+  Some (without_store identifier stores)
+
+-- stores with a change of the one of an identifier
+abbrev pub change_store : (identifier : ℕ) → (Listed → Option Listed) → List Listed → Option (List Listed)
+change_store identifier change stores = do
+  old ← find_store identifier stores
+  new ← change old
+  Some (put_store new stores)
+
+-- a store with a pattern more or less
+abbrev pub with_types : (add : Bool) → Pattern → Listed → Option Listed
+with_types add pattern s = do
+  patterns ← change_patterns add pattern s.patterns
+  Some (record s { patterns = patterns })
+
+-- a store with more links, as many as it reserves blocks at most
+abbrev pub with_links : List Link → Listed → Option Listed
+with_links links s = do
+  _ ← given (nat_le 1 (length links) && nat_le (length (s.links ++ links)) (blocks_for_size s.size))
+  Some (record s { links = s.links ++ links })
+
+-- a store with another last link
+abbrev pub with_last : Link → Listed → Option Listed
+with_last link s = do
+  links ← swap_last link s.links
+  Some (record s { links = links })
+
 -- the directory after a change, where it fits
 unfoldable pub apply : Directory → Change → Option Directory
 apply d (Clock now reports) = do
   _ ← given (nat_lt reports 16384)
   Some (record d { now = now; reports = reports })
-apply d (Put row) =
-    let new = listed_by row (find_store row.identifier d.stores) in do
-      _ ← given (may_stand new (put_store new d.stores))
-      Some (with_stores d (put_store new d.stores))
-apply d (Gone store) = do
-  _ ← find_store store d.stores
-  Some (with_stores d (without_store store d.stores))
+apply d (Put row) = option_map (with_stores d) (put_row row d.stores)
+apply d (Gone store) = option_map (with_stores d) (remove_store store d.stores)
 apply d (Forward add pattern) = do
   forward ← change_patterns add pattern d.forward
   Some (record d { forward = forward })
-apply d (Types store add pattern) = do
-  s ← find_store store d.stores
-  patterns ← change_patterns add pattern s.patterns
-  Some (with_stores d (put_store (record s { patterns = patterns }) d.stores))
-apply d (Links store links) = do
-  s ← find_store store d.stores
-  _ ← given (nat_le 1 (length links)
-    && nat_le (length (s.links ++ links)) (blocks_for_size s.size))
-  Some (with_stores d (put_store (record s { links = s.links ++ links }) d.stores))
-apply d (Swap store link) = do
-  s ← find_store store d.stores
-  links ← swap_last link s.links
-  Some (with_stores d (put_store (record s { links = links }) d.stores))
+apply d (Types store add pattern) =
+    option_map (with_stores d) (change_store store (with_types add pattern) d.stores)
+apply d (Links store links) = option_map (with_stores d) (change_store store (with_links links) d.stores)
+apply d (Swap store link) = option_map (with_stores d) (change_store store (with_last link) d.stores)
 
 -- the directory after changes, where each fits in its turn
 abbrev pub apply_all : Directory → List Change → Option Directory
