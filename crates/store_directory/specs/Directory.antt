@@ -46,7 +46,7 @@ identifiers (s ∷ stores) = s.identifier ∷ identifiers stores
 abbrev pub find_store : (identifier : ℕ) → List Listed → Option Listed
 find_store identifier [] = None
 find_store identifier (s ∷ stores) =
-    if s.identifier == identifier then Some s else find_store identifier stores
+    if identifier == s.identifier then Some s else find_store identifier stores
 
 -- the place of the store of an identifier
 abbrev pub place_of : (identifier : ℕ) → List Listed → Option ℕ
@@ -56,13 +56,13 @@ place_of identifier stores = position (nat_eq identifier) (identifiers stores)
 abbrev pub put_store : Listed → List Listed → List Listed
 put_store new [] = new ∷ []
 put_store new (s ∷ stores) =
-    if s.identifier == new.identifier then new ∷ stores else s ∷ put_store new stores
+    if new.identifier == s.identifier then new ∷ stores else s ∷ put_store new stores
 
 -- without the store of an identifier; the others keep their order
 abbrev pub without_store : (identifier : ℕ) → List Listed → List Listed
 without_store identifier [] = []
 without_store identifier (s ∷ stores) =
-    if s.identifier == identifier then stores else s ∷ without_store identifier stores
+    if identifier == s.identifier then stores else s ∷ without_store identifier stores
 
 -- The front link goes as long as there is a next one whose first record is at this one or before
 -- it.

@@ -3,15 +3,15 @@ use Rattle.std.specs.Prelude.{◌≡◌, ◌<◌, ℕ, ◌==◌, nat_lt, if◌th
 use Rattle.record_view.specs.declared.link.Link.{Link}
 use Rattle.store_directory.specs.Changes.{Change, Clock, Forward, Gone, Links, Put, Swap, Types}
 use Rattle.store_directory.specs.Directory.{Directory}
+use Rattle.store_directory.specs.Slots.{greater}
 use Rattle.store_directory.specs.declared.change.Change as declared
 use Rattle.store_directory.specs.declared.change.Change.TheVariants as variants
 
--- a directory, and for each identifier the greatest size that its store has had, or 0 where none
--- stands
+-- a directory, and identifiers, each with the greatest size that its store has had
 pub record Kept : Type 0 where
   pub directory : Directory
   pub open directory use *
-  pub largest : ℕ → ℕ
+  pub sizes : List (ℕ × ℕ)
 
 -- what a change means
 abbrev pub change_of : declared.Change → Change
@@ -22,9 +22,6 @@ change_of (variants.Forward add pattern) = Forward add pattern
 change_of (variants.Types store add pattern) = Types store add pattern
 change_of (variants.Links store links) = Links store links.now
 change_of (variants.Swap store block first) = Swap store (record { block = block; first = first })
-
-abbrev pub greater : ℕ → ℕ → ℕ
-greater a b = if nat_lt a b then b else a
 
 -- the greatest sizes after a change
 abbrev pub largest_after : Change → (ℕ → ℕ) → ℕ → ℕ

@@ -1,8 +1,11 @@
 pub mod Options
+pub mod Room
 pub mod Rows
 pub mod Directory
 pub mod Changes
 pub mod Entries
 pub mod Checkpoints
+pub mod Slots
+pub mod Appended
 pub mod Kept
 pub mod Format

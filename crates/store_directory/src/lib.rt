@@ -3,7 +3,12 @@
 #![tactic(auto)]
 
 mod change;
+mod fault;
+mod links;
 mod row;
+mod slot;
+mod stores;
 
 pub use change::Change;
+pub use fault::ApplyFault;
 pub use row::Row;

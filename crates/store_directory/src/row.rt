@@ -1,4 +1,6 @@
 // The row of a store.
+ghost use Rattle.std.specs.Prelude.{◌≡◌};
+ghost use Rattle.store_directory.specs.Rows.{FitsRow, is_lawful_row, is_range, range_end, range_next};
 
 use control_defs::StoreKind;
 
@@ -27,4 +29,46 @@ pub struct Row {
     /// The positions of a range retrieval, from the first one up to, and not including, the second,
     /// which is at most `count`.
     pub range: Option<(u32, u32)>,
+}
+
+// The positions of a range, and 0 where there is none.
+fn positions_of(range: Option<(u32, u32)>) -> (u32, u32)
+    ensures next { result.0 ≡ range_next range }
+    ensures end { result.1 ≡ range_end range }
+{
+    range.unwrap_or((0, 0))
+}
+
+// Whether a range is none, or lies within so many packets.
+fn is_range(range: Option<(u32, u32)>, count: u32) -> bool
+    ensures { result ≡ is_range count range }
+{
+    match range {
+        Some((next, end)) => next < end && end <= count,
+        None => true,
+    }
+}
+
+// Each number of a row fits the octets of its field.
+fn octets_fit(row: Row)
+    ensures { FitsRow row }
+{
+    let _positions = positions_of(row.range);
+}
+
+impl Row {
+    /// Whether the row may stand: its numbers are within their limits.
+    pub fn is_lawful(&self) -> bool
+        ensures lawful { result ≡ is_lawful_row self.now }
+        ensures fits { FitsRow self.now }
+    {
+        octets_fit(*self);
+        1 <= self.size
+            && self.size <= 100_000
+            && 1 <= self.channel
+            && self.channel <= 7
+            && self.count <= self.size
+            && self.behind <= self.count
+            && is_range(self.range, self.count)
+    }
 }

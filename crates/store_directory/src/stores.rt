@@ -1,0 +1,184 @@
+// The stores of a directory in memory, in the order of creation.
+ghost use Rattle.std.specs.Prelude.{◌≡◌, ◌+◌, ◌-◌, ◌≤◌, ◌<◌, ◌↔◌, ℕ, [], None, Some, Err, length, nat_eq, nat_lt, slice_get, if◌then◌else◌, IfOk, IfSome, OnOk, OnErr, IsTrue};
+ghost use Rattle.control_defs.specs.Patterns.{IsPattern};
+ghost use Rattle.store_directory.specs.Changes.{change_store, put_row, remove_store, with_last, with_links, with_types};
+ghost use Rattle.store_directory.specs.Directory.{IsListed, place_of, reserved_by};
+ghost use Rattle.store_directory.specs.Rows.{FitsRow, is_lawful_row};
+ghost use Rattle.store_directory.specs.Slots.{greater, largest_in};
+
+use crate::fault::{ApplyFault, Unfit};
+use crate::row::Row;
+use crate::slot::Slot;
+use block_pool::{blocks_for, fits};
+use control_defs::{Pattern, Patterns};
+use indexmap::IndexMap;
+use record_view::Link;
+use std::alloc::{AllocError, Global};
+use std::marker::Model;
+
+/// The most stores that may stand.
+const MOST_STORES: u32 = 32;
+
+/// The blocks of the largest device: on it the stores may reserve 504.
+const MOST_BLOCKS: u32 = 512;
+
+#[derive(Drop)]
+pub(crate) struct Stores {
+    slots: IndexMap<u16, Slot>,
+}
+
+impl Model for Stores {
+    ghost use Rattle.store_directory.specs.Slots.{AreSlots, Held, sizes_of, stores_of};
+
+    ghost Value = { Held };
+
+    ghost view = { λ stores. record {
+      stores = stores_of stores.slots.entries;
+      sizes = sizes_of stores.slots.entries;
+    } };
+
+    ghost invariant = { λ stores. AreSlots stores.slots.entries };
+}
+
+impl Stores {
+    /// No store, and room for 32.
+    pub(crate) fn new(alloc: Global) -> Result<Stores, AllocError>
+        ensures { IfOk result (λ stores. stores ≡ record { stores = []; sizes = [] }) }
+    {
+        let slots = IndexMap::with_capacity(alloc, MOST_STORES as usize)?;
+        Ok(Stores { slots })
+    }
+
+    pub(crate) fn len(&self) -> u32
+        ensures len { result ≡ length self.now.stores }
+        ensures few { result ≤ 32 }
+    {
+        self.slots.len() as u32
+    }
+
+    /// The place of the store with this identifier.
+    pub(crate) fn find(&self, identifier: u16) -> Option<u32>
+        ensures place { result ≡ place_of identifier self.now.stores }
+        ensures within { IfSome result (λ at. at < length self.now.stores) }
+    {
+        match self.slots.get_index_of(&identifier) {
+            Some(at) => Some(at as u32),
+            None => None,
+        }
+    }
+
+    pub(crate) fn row(&self, at: u32) -> &Row
+        requires { at < length self.now.stores }
+        ensures { IfSome (slice_get self.now.stores at) (λ s. result.now ≡ s.row) }
+    {
+        let (_, slot) = self.slots.get_index(at as usize).unwrap();
+        &slot.row
+    }
+
+    pub(crate) fn patterns(&self, at: u32) -> &Patterns
+        requires { at < length self.now.stores }
+        ensures { IfSome (slice_get self.now.stores at) (λ s. result.now ≡ s.patterns) }
+    {
+        let (_, slot) = self.slots.get_index(at as usize).unwrap();
+        &slot.patterns
+    }
+
+    pub(crate) fn links(&self, at: u32) -> &[Link]
+        requires { at < length self.now.stores }
+        ensures { IfSome (slice_get self.now.stores at) (λ s. result.now ≡ s.links) }
+    {
+        let (_, slot) = self.slots.get_index(at as usize).unwrap();
+        slot.links.list()
+    }
+
+    /// The blocks that all stores reserve.
+    pub(crate) fn reserved(&self) -> u32
+        ensures sum { result ≡ reserved_by self.now.stores }
+        ensures most { result ≤ 504 }
+    {
+        let mut sum = 0u32;
+        for at in 0..self.len() {
+            sum += blocks_for(self.row(at).size);
+        }
+        sum
+    }
+
+    // Puts a new store behind the others.
+    fn create(&mut self, alloc: Global, row: Row) -> Result<(), ApplyFault>
+        requires fresh { place_of row.identifier self.old.stores ≡ None }
+        requires lawful { IsTrue (is_lawful_row row) }
+        requires fits { FitsRow row }
+        ensures ok { OnOk result (put_row row self.old.stores ≡ Some self.new.stores) }
+        ensures largest { OnOk result ((identifier : ℕ) → largest_in self.new.sizes identifier
+            ≡ (if nat_eq identifier row.identifier then row.size else largest_in self.old.sizes identifier)) }
+        ensures unfit { (result ≡ Err ApplyFault.Unfit) → (put_row row self.old.stores ≡ None) }
+        ensures err { OnErr result (self.new ≡ self.old) }
+    {
+        if self.len() == MOST_STORES || !fits(self.reserved(), blocks_for(row.size), 0, MOST_BLOCKS) {
+            return Err(ApplyFault::Unfit);
+        }
+        let slot = Slot::new(alloc, row).map_err(|_| ApplyFault::NoMemory)?;
+        self.slots
+            .insert(row.identifier, slot)
+            .map_err(|_| ApplyFault::NoMemory)?;
+        Ok(())
+    }
+
+    /// The store with this identifier goes. The others keep their order.
+    pub(crate) fn remove(&mut self, identifier: u16) -> Result<(), Unfit>
+        ensures ok { OnOk result (remove_store identifier self.old.stores ≡ Some self.new.stores) }
+        ensures largest { OnOk result ((other : ℕ) → largest_in self.new.sizes other
+            ≡ (if nat_eq other identifier then 0 else largest_in self.old.sizes other)) }
+        ensures err { OnErr result ((remove_store identifier self.old.stores ≡ None) × (self.new ≡ self.old)) }
+    {
+        match self.slots.shift_remove(&identifier) {
+            Some(_) => Ok(()),
+            None => Err(Unfit),
+        }
+    }
+
+    /// Adds a pattern to those of a store, or else removes it.
+    pub(crate) fn change_types(
+        &mut self,
+        store: u16,
+        add: bool,
+        pattern: Pattern,
+    ) -> Result<(), Unfit>
+        requires { IsPattern pattern }
+        ensures ok { OnOk result (change_store store (with_types add pattern) self.old.stores ≡ Some self.new.stores) }
+        ensures err { OnErr result ((change_store store (with_types add pattern) self.old.stores ≡ None) × (self.new ≡ self.old)) }
+        ensures sizes { self.new.sizes ≡ self.old.sizes }
+    {
+        let Some(at) = self.find(store) else {
+            return Err(Unfit);
+        };
+        let (_, slot) = self.slots.pair_mut(at as usize);
+        slot.change_types(add, pattern)
+    }
+
+    /// Puts links behind those of a store.
+    pub(crate) fn append(&mut self, store: u16, links: &[Link]) -> Result<(), Unfit>
+        ensures ok { OnOk result (change_store store (with_links links.now) self.old.stores ≡ Some self.new.stores) }
+        ensures err { OnErr result ((change_store store (with_links links.now) self.old.stores ≡ None) × (self.new ≡ self.old)) }
+        ensures sizes { self.new.sizes ≡ self.old.sizes }
+    {
+        let Some(at) = self.find(store) else {
+            return Err(Unfit);
+        };
+        let (_, slot) = self.slots.pair_mut(at as usize);
+        slot.append(links)
+    }
+
+    /// Puts a link in the place of the last one of a store.
+    pub(crate) fn swap_last(&mut self, store: u16, link: Link) -> Result<(), Unfit>
+        ensures ok { OnOk result (change_store store (with_last link) self.old.stores ≡ Some self.new.stores) }
+        ensures err { OnErr result ((change_store store (with_last link) self.old.stores ≡ None) × (self.new ≡ self.old)) }
+        ensures sizes { self.new.sizes ≡ self.old.sizes }
+    {
+        let Some(at) = self.find(store) else {
+            return Err(Unfit);
+        };
+        let (_, slot) = self.slots.pair_mut(at as usize);
+        slot.swap_last(link)
+    }
+}
