@@ -4,3 +4,9 @@ pub mod Trims
 pub mod Places
 pub mod Held
 pub mod ChangedSlots
+pub mod Sizes
+pub mod Reserved
+pub mod Kept
+pub mod Removed
+pub mod Puts
+pub mod PutSlots

@@ -1,6 +1,6 @@
 -- The place of a store by its identifier, and what stands there.
 use Rattle.std.proofs.Common.{◌≡◌, ℕ, zero, suc, ◌+◌, ◌<◌, ◌≤◌, Bool, true, false, cond, not, List, [], ◌∷◌, ◌++◌, length, nat_eq, slice_set, refl, sym, ap, subst, ◌∙◌, arith}
-use Rattle.std.specs.Prelude.{Option, Some, None, nat_lt, slice_get, position, remove, if◌then◌else◌}
+use Rattle.std.specs.Prelude.{IsSome, Option, Some, None, nat_lt, slice_get, position, remove, if◌then◌else◌}
 use Rattle.std.specs.List.{prefix_len}
 use Rattle.std.specs.Option.{option_map}
 use Rattle.std.proofs.lemmas.Bool.{cond-false, cond-true, eqb-true, le-ltb, lt-ltb, ltb-false, ltb-true}
@@ -92,3 +92,13 @@ own-first identifier (t ∷ stores) zero s first there = eqb-true identifier t.i
     own : (u : Listed) → Some t ≡ Some u → t.identifier ≡ u.identifier
     own u is = cc
 own-first identifier (t ∷ stores) (suc i) s first there = own-first identifier stores i s first.1 there
+
+pub some-first : (p : ℕ → Bool) (stores : List Listed) (i : ℕ) → IsFirst p (identifiers stores) i → IsSome (slice_get stores i)
+some-first p [] i first = absurd first
+some-first p (s ∷ stores) zero first = refl
+some-first p (s ∷ stores) (suc i) first = some-first p stores i first.1
+
+pub within-first : (p : ℕ → Bool) (stores : List Listed) (i : ℕ) → IsFirst p (identifiers stores) i → i < length stores
+within-first p [] i first = absurd first
+within-first p (s ∷ stores) zero first = omega arith
+within-first p (s ∷ stores) (suc i) first = omega (arith, within-first p stores i first.1)

@@ -52,12 +52,16 @@ may_stand new stores =
     is_lawful_row new.row && nat_le (length stores) 32 && nat_le (reserved_by stores) 504
     && nat_le (length new.links) (blocks_for_size new.size)
 
+-- these stores, where this one may stand among them
+abbrev pub allowed : Listed → List Listed → Option (List Listed)
+allowed new stores = do
+  _ ← given (may_stand new stores)
+  Some stores
+
 -- stores with a row put among them
 abbrev pub put_row : Row → List Listed → Option (List Listed)
 put_row row stores =
-    let new = listed_by row (find_store row.identifier stores) in do
-      _ ← given (may_stand new (put_store new stores))
-      Some (put_store new stores)
+    let new = listed_by row (find_store row.identifier stores) in allowed new (put_store new stores)
 
 -- stores without the one of an identifier
 abbrev pub remove_store : (identifier : ℕ) → List Listed → Option (List Listed)

@@ -102,13 +102,17 @@ pub record IsListed (s : Listed) : Type 0 where
   -- no more blocks than it reserves
   pub links : length s.links ≤ blocks_for_size s.size
 
--- What is kept of a directory. 504 blocks are those of the largest device without the eight that no
+-- What is kept of the stores. 504 blocks are those of the largest device without the eight that no
 -- store may reserve.
+pub record AreListed (stores : List Listed) : Type 0 where
+  pub few : length stores ≤ 32
+  pub reserved : reserved_by stores ≤ 504
+  pub distinct : are_distinct (identifiers stores) ≡ true
+  pub each : All IsListed stores
+
+-- What is kept of a directory.
 pub record IsDirectory (d : Directory) : Type 0 where
   pub now : d.now < 2 ^ 48
   pub reports : d.reports < 16384
   pub forward : IsPatternList d.forward
-  pub few : length d.stores ≤ 32
-  pub reserved : reserved_by d.stores ≤ 504
-  pub distinct : are_distinct (identifiers d.stores) ≡ true
-  pub each : All IsListed d.stores
+  pub stores : AreListed d.stores

@@ -26,7 +26,7 @@ change_of (variants.Swap store block first) = Swap store (record { block = block
 -- the greatest sizes after a change
 abbrev pub largest_after : Change → (ℕ → ℕ) → ℕ → ℕ
 largest_after (Put row) largest identifier =
-    if identifier == row.identifier then greater (largest identifier) row.size
+    if identifier == row.identifier then greater (largest row.identifier) row.size
     else largest identifier
 largest_after (Gone store) largest identifier =
     if identifier == store then 0 else largest identifier

@@ -2,7 +2,7 @@
 use Rattle.std.specs.Prelude.{◌≡◌, ◌≤◌, ℕ, true, ◌==◌, nat_lt, if◌then◌else◌, List, [], ◌∷◌, length, map, Option, Some}
 use Rattle.std.specs.List.{All}
 use Rattle.block_pool.specs.Sizes.{blocks_for_size}
-use Rattle.store_directory.specs.Changes.{listed_by}
+use Rattle.store_directory.specs.Changes.{listed_by, put_row}
 use Rattle.store_directory.specs.Directory.{IsListed, Listed, are_distinct, identifiers, reserved_by}
 use Rattle.store_directory.specs.declared.row.Row.{Row}
 use Rattle.store_directory.specs.declared.slot.Slot.{Slot}
@@ -64,3 +64,10 @@ pub record AreSlots (entries : List (ℕ × Slot)) : Type 0 where
 pub record Held : Type 0 where
   pub stores : List Listed
   pub sizes : List (ℕ × ℕ)
+
+-- A row was put among the stores.
+pub record PutsStore (row : Row) (old new : Held) : Type 0 where
+  pub stores : put_row row old.stores ≡ Some new.stores
+  pub largest : (identifier : ℕ) → largest_in new.sizes identifier
+      ≡ (if identifier == row.identifier then greater (largest_in old.sizes row.identifier) row.size
+        else largest_in old.sizes identifier)

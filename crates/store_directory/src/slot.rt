@@ -1,5 +1,5 @@
 // One store of a directory in memory.
-ghost use Rattle.std.specs.Prelude.{◌≡◌, ◌+◌, ◌-◌, ◌≤◌, ◌<◌, ◌↔◌, None, Some, Err, [], length, drop, OnOk, OnErr, IfOk, IsErr, IsTrue};
+ghost use Rattle.std.specs.Prelude.{◌≡◌, ◌+◌, ◌-◌, ◌≤◌, ◌<◌, ◌↔◌, ◌⊎◌, None, Some, Err, [], length, drop, OnOk, OnErr, IfOk, IsErr, IsTrue};
 ghost use Rattle.std.specs.List.{prefix_len};
 ghost use Rattle.block_pool.specs.Sizes.{blocks_for_size};
 ghost use Rattle.control_defs.specs.Lists.{IsPatternList};
@@ -107,6 +107,7 @@ impl Slot {
             ↔ (blocks_for_size row.size < length (trimmed row.first row.count self.old.links.items)) }
         ensures memory { result ≡ Err ApplyFault.NoMemory → self.old.largest < row.size }
         ensures err { OnErr result (self.new ≡ self.old) }
+        ensures all_or_nothing { PutsRow row self.old self.new ⊎ (self.new ≡ self.old) }
     {
         let gone = self.count_gone(&row);
         let room = blocks_for(row.size) as usize;

@@ -1,10 +1,11 @@
 // The stores of a directory in memory, in the order of creation.
-ghost use Rattle.std.specs.Prelude.{◌≡◌, ◌+◌, ◌-◌, ◌≤◌, ◌<◌, ◌↔◌, ℕ, [], None, Some, Err, length, nat_eq, nat_lt, slice_get, if◌then◌else◌, IfOk, IfSome, OnOk, OnErr, IsTrue};
+ghost use Rattle.std.specs.Prelude.{◌≡◌, ◌+◌, ◌-◌, ◌≤◌, ◌<◌, ◌↔◌, ℕ, [], None, Some, Err, length, nat_eq, nat_lt, slice_get, if◌then◌else◌, IfErr, IfNone, IfOk, IfSome, OnOk, OnErr, IsTrue};
+ghost use Rattle.block_pool.specs.Sizes.{blocks_for_size};
 ghost use Rattle.control_defs.specs.Patterns.{IsPattern};
 ghost use Rattle.store_directory.specs.Changes.{change_store, put_row, remove_store, with_last, with_links, with_types};
-ghost use Rattle.store_directory.specs.Directory.{IsListed, place_of, reserved_by};
+ghost use Rattle.store_directory.specs.Directory.{AreListed, place_of, reserved_by};
 ghost use Rattle.store_directory.specs.Rows.{FitsRow, is_lawful_row};
-ghost use Rattle.store_directory.specs.Slots.{greater, largest_in};
+ghost use Rattle.store_directory.specs.Slots.{PutsStore, largest_in};
 
 use crate::fault::{ApplyFault, Unfit};
 use crate::row::Row;
@@ -51,7 +52,7 @@ impl Stores {
 
     pub(crate) fn len(&self) -> u32
         ensures len { result ≡ length self.now.stores }
-        ensures few { result ≤ 32 }
+        ensures kept { AreListed self.now.stores }
     {
         self.slots.len() as u32
     }
@@ -60,6 +61,7 @@ impl Stores {
     pub(crate) fn find(&self, identifier: u16) -> Option<u32>
         ensures place { result ≡ place_of identifier self.now.stores }
         ensures within { IfSome result (λ at. at < length self.now.stores) }
+        ensures new { IfNone result (largest_in self.now.sizes identifier ≡ 0) }
     {
         match self.slots.get_index_of(&identifier) {
             Some(at) => Some(at as u32),
@@ -103,25 +105,73 @@ impl Stores {
         sum
     }
 
+    // Whether one more store, of this size, may stand.
+    fn has_place(&self, size: u32) -> bool
+        ensures { IsTrue result ↔ (length self.now.stores < 32)
+            × (reserved_by self.now.stores + blocks_for_size size ≤ 504) }
+    {
+        self.len() < MOST_STORES && fits(self.reserved(), blocks_for(size), 0, MOST_BLOCKS)
+    }
+
+    // Whether the store at a place may have this size.
+    fn may_resize(&self, at: u32, size: u32) -> bool
+        requires { at < length self.now.stores }
+        ensures { IfSome (slice_get self.now.stores at) (λ s. IsTrue result
+            ↔ (reserved_by self.now.stores + blocks_for_size size ≤ 504 + blocks_for_size s.size)) }
+    {
+        let old = blocks_for(self.row(at).size);
+        fits(self.reserved(), blocks_for(size), old, MOST_BLOCKS)
+    }
+
     // Puts a new store behind the others.
-    fn create(&mut self, alloc: Global, row: Row) -> Result<(), ApplyFault>
+    fn create(&mut self, alloc: Global, row: Row) -> Result<(), AllocError>
         requires fresh { place_of row.identifier self.old.stores ≡ None }
         requires lawful { IsTrue (is_lawful_row row) }
         requires fits { FitsRow row }
-        ensures ok { OnOk result (put_row row self.old.stores ≡ Some self.new.stores) }
-        ensures largest { OnOk result ((identifier : ℕ) → largest_in self.new.sizes identifier
-            ≡ (if nat_eq identifier row.identifier then row.size else largest_in self.old.sizes identifier)) }
-        ensures unfit { (result ≡ Err ApplyFault.Unfit) → (put_row row self.old.stores ≡ None) }
+        requires few { length self.old.stores < 32 }
+        requires blocks { reserved_by self.old.stores + blocks_for_size row.size ≤ 504 }
+        ensures ok { OnOk result (PutsStore row self.old self.new) }
         ensures err { OnErr result (self.new ≡ self.old) }
     {
-        if self.len() == MOST_STORES || !fits(self.reserved(), blocks_for(row.size), 0, MOST_BLOCKS) {
+        let slot = Slot::new(alloc, row)?;
+        self.slots.insert(row.identifier, slot)?;
+        Ok(())
+    }
+
+    // Puts a row in the place of the one that a store has.
+    fn replace(&mut self, at: u32, row: Row) -> Result<(), ApplyFault>
+        requires stands { place_of row.identifier self.old.stores ≡ Some at }
+        requires lawful { IsTrue (is_lawful_row row) }
+        requires fits { FitsRow row }
+        requires blocks { IfSome (slice_get self.old.stores at) (λ s.
+            reserved_by self.old.stores + blocks_for_size row.size ≤ 504 + blocks_for_size s.size) }
+        ensures ok { OnOk result (PutsStore row self.old self.new) }
+        ensures unfit { (result ≡ Err ApplyFault.Unfit) → (put_row row self.old.stores ≡ None) }
+        ensures memory { (result ≡ Err ApplyFault.NoMemory) → (largest_in self.old.sizes row.identifier < row.size) }
+        ensures err { OnErr result (self.new ≡ self.old) }
+    {
+        let (_, slot) = self.slots.pair_mut(at as usize);
+        slot.put(row)
+    }
+
+    /// A store's row becomes this one, or a new store goes last. Memory is taken for a new store, and
+    /// for one that is to be greater than it has been.
+    pub(crate) fn put(&mut self, alloc: Global, row: Row) -> Result<(), ApplyFault>
+        ensures ok { OnOk result (PutsStore row self.old self.new) }
+        ensures unfit { (result ≡ Err ApplyFault.Unfit) → (put_row row self.old.stores ≡ None) }
+        ensures memory { (result ≡ Err ApplyFault.NoMemory) → (largest_in self.old.sizes row.identifier < row.size) }
+        ensures err { OnErr result (self.new ≡ self.old) }
+    {
+        if !row.is_lawful() {
             return Err(ApplyFault::Unfit);
         }
-        let slot = Slot::new(alloc, row).map_err(|_| ApplyFault::NoMemory)?;
-        self.slots
-            .insert(row.identifier, slot)
-            .map_err(|_| ApplyFault::NoMemory)?;
-        Ok(())
+        match self.find(row.identifier) {
+            Some(at) if self.may_resize(at, row.size) => self.replace(at, row),
+            None if self.has_place(row.size) => self
+                .create(alloc, row)
+                .map_err(|_| ApplyFault::NoMemory),
+            _ => Err(ApplyFault::Unfit),
+        }
     }
 
     /// The store with this identifier goes. The others keep their order.
@@ -131,10 +181,11 @@ impl Stores {
             ≡ (if nat_eq other identifier then 0 else largest_in self.old.sizes other)) }
         ensures err { OnErr result ((remove_store identifier self.old.stores ≡ None) × (self.new ≡ self.old)) }
     {
-        match self.slots.shift_remove(&identifier) {
-            Some(_) => Ok(()),
-            None => Err(Unfit),
+        if self.find(identifier).is_none() {
+            return Err(Unfit);
         }
+        self.slots.shift_remove(&identifier);
+        Ok(())
     }
 
     /// Adds a pattern to those of a store, or else removes it.

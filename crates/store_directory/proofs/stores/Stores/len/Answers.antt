@@ -1,0 +1,7 @@
+use Rattle.std.proofs.Common.{subst, ap}
+use Rattle.store_directory.specs.Directory.{AreListed}
+use Rattle.store_directory.proofs.Kept.{are-listed}
+use Rattle.store_directory.proofs.stores.Stores.len.Goals as goal
+
+pub returns-clause-kept : goal.returns-clause-kept
+returns-clause-kept c = subst (λ h. AreListed h.stores) c.self.view_is (are-listed c.self.inside.slots.entries c.self.invariant)
