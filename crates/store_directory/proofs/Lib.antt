@@ -10,3 +10,4 @@ pub mod Kept
 pub mod Removed
 pub mod Puts
 pub mod PutSlots
+pub mod Applied

@@ -1,6 +1,6 @@
 -- What a directory in memory is: the directory, and how much room its stores have.
-use Rattle.std.specs.Prelude.{◌≡◌, ◌<◌, ℕ, ◌==◌, nat_lt, if◌then◌else◌, List, [], ◌∷◌, Option, Some, None}
-use Rattle.record_view.specs.declared.link.Link.{Link}
+use Rattle.std.specs.Prelude.{◌<◌, ◌^◌, ℕ, ◌==◌, if◌then◌else◌, List, [], ◌∷◌}
+use Rattle.control_defs.specs.Patterns.{IsPattern}
 use Rattle.store_directory.specs.Changes.{Change, Clock, Forward, Gone, Links, Put, Swap, Types}
 use Rattle.store_directory.specs.Directory.{Directory}
 use Rattle.store_directory.specs.Slots.{greater}
@@ -22,6 +22,13 @@ change_of (variants.Forward add pattern) = Forward add pattern
 change_of (variants.Types store add pattern) = Types store add pattern
 change_of (variants.Links store links) = Links store links.now
 change_of (variants.Swap store block first) = Swap store (record { block = block; first = first })
+
+-- the time and the patterns of a change are within their ranges
+abbrev pub IsChange : Change → Type 0
+IsChange (Clock now reports) = now < 2 ^ 48
+IsChange (Forward add pattern) = IsPattern pattern
+IsChange (Types store add pattern) = IsPattern pattern
+IsChange _ = Unit {0}
 
 -- the greatest sizes after a change
 abbrev pub largest_after : Change → (ℕ → ℕ) → ℕ → ℕ

@@ -1,5 +1,4 @@
 // Why a change, or the text of changes, is refused.
-ghost use Rattle.std.specs.Prelude.{◌≡◌};
 
 /// A change does not fit.
 #[derive(Clone, Copy, Debug, PartialEq, Eq)]
@@ -12,12 +11,4 @@ pub enum ApplyFault {
     Unfit,
     /// There was no memory for a new store, or for one that is to be greater than it has been.
     NoMemory,
-}
-
-impl From<Unfit> for ApplyFault {
-    fn from(_fault: Unfit) -> ApplyFault
-        ensures { result ≡ ApplyFault.Unfit }
-    {
-        ApplyFault::Unfit
-    }
 }

@@ -3,6 +3,7 @@
 #![tactic(auto)]
 
 mod change;
+mod directory;
 mod fault;
 mod links;
 mod row;
@@ -10,5 +11,6 @@ mod slot;
 mod stores;
 
 pub use change::Change;
+pub use directory::Directory;
 pub use fault::ApplyFault;
 pub use row::Row;
