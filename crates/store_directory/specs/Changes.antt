@@ -1,5 +1,5 @@
 -- Changes of a directory, and when they fit.
-use Rattle.std.specs.Prelude.{◌≡◌, ◌<◌, ◌^◌, ℕ, Bool, true, false, ◌&&◌, nat_le, nat_lt, List, [], ◌∷◌, ◌++◌, length, Option, Some, None}
+use Rattle.std.specs.Prelude.{ℕ, Bool, true, false, ◌&&◌, nat_le, nat_lt, List, [], ◌∷◌, ◌++◌, length, Option, Some, None}
 use Rattle.block_pool.specs.Sizes.{blocks_for_size}
 use Rattle.control_defs.specs.Lists.{is_standing, with_pattern, without_pattern}
 use Rattle.control_defs.specs.declared.patterns.Pattern.{Pattern}
@@ -73,7 +73,7 @@ apply d (Types store add pattern) = do
 apply d (Links store links) = do
   s ← find_store store d.stores
   _ ← given (nat_le 1 (length links)
-    && nat_le (length (s.links ++ links)) (blocks_for_size s.size))
+      && nat_le (length (s.links ++ links)) (blocks_for_size s.size))
   Some (with_stores d (put_store (record s { links = s.links ++ links }) d.stores))
 apply d (Swap store link) = do
   s ← find_store store d.stores

@@ -1,6 +1,5 @@
 -- What a directory in memory is: the directory, and how much room its stores have.
-use Rattle.std.specs.Prelude.{◌≡◌, ◌<◌, ℕ, ◌==◌, nat_lt, if◌then◌else◌, List, [], ◌∷◌, Option, Some, None}
-use Rattle.record_view.specs.declared.link.Link.{Link}
+use Rattle.std.specs.Prelude.{◌<◌, ℕ, ◌==◌, nat_lt, if◌then◌else◌, List, [], ◌∷◌}
 use Rattle.store_directory.specs.Changes.{Change, Clock, Forward, Gone, Links, Put, Swap, Types}
 use Rattle.store_directory.specs.Directory.{Directory}
 use Rattle.store_directory.specs.declared.change.Change as declared

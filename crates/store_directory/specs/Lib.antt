@@ -5,4 +5,5 @@ pub mod Changes
 pub mod Entries
 pub mod Checkpoints
 pub mod Kept
+pub mod Spelled
 pub mod Format

@@ -3,7 +3,17 @@
 #![tactic(auto)]
 
 mod change;
+mod change_text;
+mod change_writing;
+mod laws;
+mod link_text;
 mod row;
+mod row_text;
 
 pub use change::Change;
+pub use change_writing::write_change;
+pub use laws::{written_changes_are_read, written_entries_are_read};
 pub use row::Row;
+
+#[cfg(test)]
+mod text_tests;

@@ -1,5 +1,8 @@
 // The row of a store.
 
+ghost use Rattle.std.specs.Prelude.{◌≡◌};
+ghost use Rattle.store_directory.specs.Rows.{is_lawful_row};
+
 use control_defs::StoreKind;
 
 /// A packet store without its patterns and its packets (ECSS-E-ST-70-41C, 6.15).
@@ -27,4 +30,22 @@ pub struct Row {
     /// The positions of a range retrieval, from the first one up to, and not including, the second,
     /// which is at most `count`.
     pub range: Option<(u32, u32)>,
+}
+
+impl Row {
+    /// Whether a store may have the row: its numbers are in their ranges, and its positions among its
+    /// packets.
+    pub fn is_lawful(&self) -> bool
+        ensures { result ≡ is_lawful_row self.now }
+    {
+        let positions_lie_within = match self.range {
+            Some((next, end)) => next < end && end <= self.count,
+            None => true,
+        };
+        (1..=100_000).contains(&self.size)
+            && (1..=7).contains(&self.channel)
+            && self.count <= self.size
+            && self.behind <= self.count
+            && positions_lie_within
+    }
 }
