@@ -6,3 +6,4 @@ pub mod Parts
 pub mod PatternOctets
 pub mod Places
 pub mod Standing
+pub mod Tested

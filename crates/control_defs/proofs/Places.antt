@@ -28,7 +28,7 @@ not_tied Less h n = cc h
 not_tied Equal h n = absurd (n refl)
 not_tied Greater h n = refl
 
-less_from : (o : Ordering) → is_lt o ≡ true → o ≡ Less
+pub less_from : (o : Ordering) → is_lt o ≡ true → o ≡ Less
 less_from Less h = refl
 less_from Equal h = cc h
 less_from Greater h = cc h

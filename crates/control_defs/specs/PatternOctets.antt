@@ -1,6 +1,6 @@
 -- Patterns as octets: one with the form, two with the APID, one with the service type and one with
 -- the message subtype. A field that the form does not use is 0.
-use Rattle.std.specs.Prelude.{◌==◌, ◌&&◌, ◌||◌, ℕ, Bool, not, nat_le, nat_lt, if◌then◌else◌, List, [], ◌∷◌, ◌++◌, length, slice_index, Option, Some, None}
+use Rattle.std.specs.Prelude.{◌==◌, ◌&&◌, ◌||◌, ℕ, Bool, not, nat_le, nat_lt, if◌then◌else◌, List, [], ◌∷◌, ◌++◌, length, slice_index, position, Option, Some, None}
 use Rattle.std.specs.List.{list_any}
 use Rattle.octet_fields.specs.Fields.{big_bytes, field}
 use Rattle.control_defs.specs.declared.patterns.Pattern.{Pattern}
@@ -46,9 +46,17 @@ is_wrong_in_pattern octets place =
     || (place == 1 && nat_lt 2047 (apid_in octets))
     || (nat_le (used_by (form_in octets)) place && not (slice_index octets place == 0))
 
+-- the places of the five octets
+abbrev pub pattern_places : List ℕ
+pattern_places = 0 ∷ 1 ∷ 2 ∷ 3 ∷ 4 ∷ []
+
+-- the place of the first wrong one of the five octets at the front
+abbrev pub first_wrong_in_pattern : List ℕ → Option ℕ
+first_wrong_in_pattern octets = position (is_wrong_in_pattern octets) pattern_places
+
 -- whether none of the five octets at the front is wrong
 abbrev pub is_right_pattern : List ℕ → Bool
-is_right_pattern octets = not (list_any (is_wrong_in_pattern octets) (0 ∷ 1 ∷ 2 ∷ 3 ∷ 4 ∷ []))
+is_right_pattern octets = not (list_any (is_wrong_in_pattern octets) pattern_places)
 
 -- the pattern that the five octets at the front spell
 unfoldable pub spelled_pattern : List ℕ → Option Pattern

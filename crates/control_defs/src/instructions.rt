@@ -13,7 +13,7 @@ pub enum StoreKind {
 
 impl StoreKind {
     ghost use Rattle.std.specs.Prelude.{◌≡◌};
-    ghost use Rattle.control_defs.specs.Instructions.{kind_octet};
+    ghost use Rattle.control_defs.specs.Instructions.{kind_octet, store_kind_in};
 
     /// The octet that says it in requests and reports: 0 of a circular store, 1 of a bounded one.
     pub fn octet(self) -> u8
@@ -22,6 +22,16 @@ impl StoreKind {
         match self {
             StoreKind::Circular => 0,
             StoreKind::Bounded => 1,
+        }
+    }
+
+    /// The kind that an octet says: 0 a circular store, any other octet a bounded one.
+    pub fn from_octet(octet: u8) -> StoreKind
+        ensures { result ≡ store_kind_in octet }
+    {
+        match octet {
+            0 => StoreKind::Circular,
+            _ => StoreKind::Bounded,
         }
     }
 }

@@ -1,9 +1,10 @@
 // Laws on patterns and their lists.
-ghost use Rattle.std.specs.Prelude.{◌≡◌, ◌↔◌, ◌≤◌, ◌||◌, true, List, length};
+ghost use Rattle.std.specs.Prelude.{◌≡◌, ◌↔◌, ◌≤◌, ◌||◌, ◌++◌, ℕ, All, true, List, Some, length};
 ghost use Rattle.std.specs.Cmp.{IsTotalOrder};
 ghost use Rattle.control_defs.specs.declared.keys.Key.{Key};
 ghost use Rattle.control_defs.specs.declared.patterns.Pattern.{Pattern};
-ghost use Rattle.control_defs.specs.Lists.{IsPatternList, pattern_cmp, with_pattern, without_pattern};
+ghost use Rattle.control_defs.specs.Lists.{IsPatternList, is_pattern_list, pattern_cmp, with_pattern, without_pattern};
+ghost use Rattle.control_defs.specs.PatternOctets.{pattern_octets, spelled_pattern};
 ghost use Rattle.control_defs.specs.Patterns.{HasPatternOctets, IsKey, IsPattern, any_covers, covers, pattern_covers};
 
 use std::cmp::Ordering;
@@ -31,4 +32,17 @@ pub fn lists_stay_lawful()
         → IsPatternList (without_pattern p xs) }
     ensures covering { (p : Pattern) (xs : List Pattern) (key : Key)
         → any_covers (with_pattern p xs) key ≡ (any_covers xs key || covers p key) }
+{}
+
+/// The test of a list whose patterns have APIDs of eleven bits tells if and only if it is a list of
+/// patterns.
+pub fn lawful_lists_are_tested()
+    ensures { (patterns : List Pattern) → All IsPattern patterns
+        → (is_pattern_list patterns ≡ true) ↔ IsPatternList patterns }
+{}
+
+/// A pattern that was written is read back from its octets, whatever stands behind them.
+pub fn written_patterns_are_read()
+    ensures { (pattern : Pattern) (rest : List ℕ) → IsPattern pattern
+        → spelled_pattern (pattern_octets pattern ++ rest) ≡ Some pattern }
 {}

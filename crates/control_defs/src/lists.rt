@@ -1,6 +1,7 @@
 // Lists of patterns, which say what is forwarded or stored.
-ghost use Rattle.std.specs.Prelude.{◌≡◌, ◌<◌, ◌≤◌, ◌↔◌, ◌∷◌, [], All, length, not, filter, insert, slice_get, Contains, Ok, Some, OnOk, OnErr, IsOk, IsErr, IfOk, IfErr, is_ok};
-ghost use Rattle.control_defs.specs.Lists.{AreApart, IsPatternList, IsPlace, is_covered, is_standing, placed, with_pattern, without_covered, without_pattern};
+ghost use Rattle.std.specs.Prelude.{◌≡◌, ◌<◌, ◌≤◌, ◌↔◌, ◌∷◌, ◌++◌, [], All, length, not, filter, insert, slice_get, Contains, Ok, Some, OnOk, OnErr, IsOk, IsErr, IfOk, IfErr, is_ok};
+ghost use Rattle.std.specs.List.{list_all};
+ghost use Rattle.control_defs.specs.Lists.{AreApart, IsPatternList, IsPlace, is_covered, is_pattern_list, is_standing, may_precede, placed, with_pattern, without_covered, without_pattern};
 ghost use Rattle.control_defs.specs.Patterns.{IsPattern, any_covers};
 
 use crate::keys::Key;
@@ -15,6 +16,10 @@ pub struct Limit;
 /// A pattern is not in a list.
 #[derive(Clone, Copy, Debug, PartialEq, Eq)]
 pub struct Absent;
+
+/// A pattern may not stand behind those of a list.
+#[derive(Clone, Copy, Debug, PartialEq, Eq)]
+pub struct Misplaced;
 
 /// What is forwarded, or what a store stores (ECSS-E-ST-70-41C, 6.14 and 6.15): at most 64
 /// patterns, rising in the order of patterns. None covers another.
@@ -38,7 +43,8 @@ impl Model for Patterns {
 impl Patterns {
     /// The list of no pattern.
     pub fn new() -> Patterns
-        ensures { result ≡ [] }
+        ensures empty { result ≡ [] }
+        ensures lawful { IsPatternList result }
     {
         Patterns {
             items: ArrayVec::new(),
@@ -68,6 +74,7 @@ impl Patterns {
         ensures ok { OnOk result (self.new ≡ with_pattern pattern self.old) }
         ensures limit { IsErr result ↔ (64 < length (with_pattern pattern self.old)) }
         ensures err { OnErr result (self.new ≡ self.old) }
+        ensures lawful { IsPatternList self.new }
     {
         if self.covers_pattern(&pattern) {
             return Ok(());
@@ -87,6 +94,7 @@ impl Patterns {
         ensures absent { IsErr result ↔ ¬ (Contains self.old pattern) }
         ensures standing { is_ok result ≡ is_standing pattern self.old }
         ensures err { OnErr result (self.new ≡ self.old) }
+        ensures lawful { IsPatternList self.new }
     {
         match self.search(&pattern) {
             Ok(at) => {
@@ -95,6 +103,31 @@ impl Patterns {
             }
             Err(_) => Err(Absent),
         }
+    }
+
+    /// Puts a pattern, whose APID is at most 2,047, behind all others. `Misplaced` where the list
+    /// would not be lawful with it: where one of the others is not before it, where it and one of
+    /// them cover one another, or where 65 patterns would stand.
+    pub fn append(&mut self, pattern: Pattern) -> Result<(), Misplaced>
+        requires { IsPattern pattern }
+        ensures ok { OnOk result (self.new ≡ self.old ++ pattern ∷ []) }
+        ensures lawful_with { is_ok result ≡ is_pattern_list (self.old ++ pattern ∷ []) }
+        ensures err { OnErr result (self.new ≡ self.old) }
+        ensures lawful { IsPatternList self.new }
+    {
+        if self.items.is_full() || !self.precedes(&pattern) {
+            return Err(Misplaced);
+        }
+        self.items.push(pattern);
+        Ok(())
+    }
+
+    // Whether each of the patterns may stand in front of this one.
+    fn precedes(&self, pattern: &Pattern) -> bool
+        ensures each { result ≡ list_all (λ other. may_precede other pattern.now) self.now }
+        ensures lawful { IsPatternList self.now }
+    {
+        self.items.iter().all(|other| other.may_precede(pattern))
     }
 
     // Whether one of the patterns covers this one.
@@ -138,7 +171,8 @@ impl Patterns {
         requires range { IsPattern pattern }
         requires room { length self.old < 64 }
         requires apart { All (AreApart pattern) self.old }
-        ensures { self.new ≡ placed pattern self.old }
+        ensures placed { self.new ≡ placed pattern self.old }
+        ensures lawful { IsPatternList self.new }
     {
         if let Err(at) = self.search(&pattern) {
             self.items.insert(at, pattern);

@@ -1,5 +1,6 @@
 // Patterns, which say what packets are forwarded or stored.
 ghost use Rattle.std.specs.Prelude.{◌≡◌};
+ghost use Rattle.control_defs.specs.Lists.{may_precede};
 ghost use Rattle.control_defs.specs.Patterns.{covers, pattern_covers};
 
 use crate::keys::Key;
@@ -56,5 +57,12 @@ impl Pattern {
             (Pattern::Kind(..), Pattern::Kind(..)) => self == other,
             _ => false,
         }
+    }
+    /// Whether it may stand in a list in front of the other one: it is before it, and neither covers
+    /// the other.
+    pub(crate) fn may_precede(&self, other: &Pattern) -> bool
+        ensures { result ≡ may_precede self.now other.now }
+    {
+        self < other && !self.covers_pattern(other) && !other.covers_pattern(self)
     }
 }

@@ -162,3 +162,66 @@ fn only_the_pattern_itself_is_removed(rt: HostRuntime) {
     );
     assert!(rt; patterns.list() == [Pattern::App(7), Pattern::Kind(200, 3, 25)].as_slice());
 }
+
+#[test]
+fn a_pattern_goes_behind_those_that_it_is_behind(rt: HostRuntime) {
+    let mut patterns = Patterns::new();
+    assert!(rt; patterns.append(Pattern::App(7)) == Ok(()));
+    assert!(rt; patterns.append(Pattern::Service(100, 3)) == Ok(()));
+    assert!(rt; patterns.append(Pattern::App(8)) == Err(Misplaced));
+    assert!(rt; patterns.append(Pattern::Service(100, 3)) == Err(Misplaced));
+    assert!(rt; patterns.append(Pattern::Kind(7, 0, 0)) == Err(Misplaced));
+    assert!(rt; patterns.append(Pattern::Kind(100, 3, 25)) == Err(Misplaced));
+    assert!(rt; patterns.append(Pattern::Kind(100, 4, 0)) == Ok(()));
+    let expected = [
+        Pattern::App(7),
+        Pattern::Service(100, 3),
+        Pattern::Kind(100, 4, 0),
+    ];
+    assert!(rt; patterns.list() == expected.as_slice());
+}
+
+#[test]
+fn a_sixty_fifth_pattern_is_misplaced(rt: HostRuntime) {
+    let mut patterns = Patterns::new();
+    for service in 0..64 {
+        assert!(rt; patterns.append(Pattern::Service(0, service)) == Ok(()));
+    }
+    assert!(rt; patterns.append(Pattern::Service(0, 64)) == Err(Misplaced));
+    assert!(rt; patterns.list().len() == 64);
+}
+
+#[test]
+fn five_octets_spell_a_pattern(rt: HostRuntime) {
+    let rows = [
+        ([9, 0, 0, 0, 0, 0], Pattern::Every),
+        ([9, 1, 0, 7, 0, 0], Pattern::App(7)),
+        ([9, 2, 7, 255, 3, 0], Pattern::Service(2047, 3)),
+        ([9, 3, 0, 100, 3, 25], Pattern::Kind(100, 3, 25)),
+    ];
+    for (octets, pattern) in rows {
+        let mut written = [9u8; 6];
+        assert!(rt; wrong_in_pattern(&octets, 1).is_none());
+        assert!(rt; spelled_pattern_at(&octets, 1) == Some(pattern));
+        assert!(rt; put_pattern(pattern, &mut written, 1) == 6);
+        assert!(rt; written == octets);
+    }
+}
+
+#[test]
+fn the_first_wrong_octet_of_a_pattern_is_named(rt: HostRuntime) {
+    let rows = [
+        ([4, 0, 0, 0, 0], 0),
+        ([1, 8, 0, 0, 0], 1),
+        ([0, 1, 7, 0, 0], 1),
+        ([0, 0, 7, 0, 0], 2),
+        ([0, 0, 0, 1, 0], 3),
+        ([1, 0, 7, 1, 0], 3),
+        ([1, 0, 7, 0, 1], 4),
+        ([2, 0, 7, 3, 1], 4),
+    ];
+    for (octets, place) in rows {
+        assert!(rt; wrong_in_pattern(&octets, 0) == Some(place));
+        assert!(rt; spelled_pattern_at(&octets, 0).is_none());
+    }
+}

@@ -11,6 +11,8 @@ use Rattle.std.specs.Prelude.{All}
 use Rattle.byteorder.specs.Endian.{big_bytes, big_number}
 use Rattle.byteorder.specs.Numbers.{big_from-cons, big_from-lt}
 use Rattle.octet_fields.specs.Fields.{field}
+use Rattle.control_defs.specs.PatternOctets.{pattern_in, pattern_octets}
+use Rattle.control_defs.proofs.PatternOctets.{ReadsPattern}
 
 -- octets, each below 256
 abbrev pub AreOctets : List ℕ → Type 0
@@ -85,3 +87,9 @@ Stands-number n at octets fit long = record {
 -- one octet
 pub Stands-octet : (at : ℕ) (octets : List ℕ) → at < length octets → Stands octets at (slice_index octets at ∷ []) (suc at)
 Stands-octet at octets within = record { is = drop-cons octets at 0 within }
+
+-- a pattern
+pub Stands-pattern : (at : ℕ) (octets : List ℕ) → ReadsPattern (drop at octets) → Stands octets at (pattern_octets (pattern_in (drop at octets))) (at + 5)
+Stands-pattern at octets reads = record {
+  is = reads.octets_are ∙ ap (λ (l : List ℕ). pattern_octets (pattern_in (drop at octets)) ++ l) (drop-drop 5 at octets);
+}

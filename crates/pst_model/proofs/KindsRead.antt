@@ -14,8 +14,8 @@ use Rattle.pst_model.specs.Items.{HasOctets, is_alone, item_of, kind_asked}
 use Rattle.pst_model.specs.Layouts.{Field, OneKind, OnePattern, RequestKind, alone, channel_field, is_wrong_in, is_wrong_in_field, list_of, size_field, store_field, time_field, width_of, width_of_field}
 use Rattle.control_defs.specs.PatternOctets.{pattern_octets}
 use Rattle.control_defs.specs.PatternOctets.{pattern_in}
-use Rattle.pst_model.proofs.ItemOctets.{AreOctets, Stands-number, Stands-octet, Stands-then, field-lt, octet-lt}
-use Rattle.pst_model.proofs.PatternItems.{ReadsPattern-right, Stands-pattern}
+use Rattle.control_defs.proofs.PatternOctets.{ReadsPattern-right}
+use Rattle.pst_model.proofs.ItemOctets.{AreOctets, Stands-number, Stands-octet, Stands-pattern, Stands-then, field-lt, octet-lt}
 
 -- none of the octets of an item at the front is wrong
 abbrev pub IsRight : List Field → List ℕ → Type 0

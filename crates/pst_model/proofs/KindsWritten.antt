@@ -15,7 +15,7 @@ use Rattle.pst_model.specs.Layouts.{Field, alone, Octets, OneKind, OnePattern, R
 use Rattle.control_defs.specs.PatternOctets.{pattern_octets}
 use Rattle.pst_model.proofs.KindsRead.{IsRight}
 use Rattle.control_defs.proofs.PatternOctets.{length-pattern_octets}
-use Rattle.pst_model.proofs.PatternItems.{IsRightPattern, IsRightPattern-octets, pattern_in-octets}
+use Rattle.control_defs.proofs.PatternOctets.{IsRightPattern, IsRightPattern-octets, pattern_in-octets}
 
 -- An item of this kind: its octets spell it, whatever follows them, and none is wrong.
 pub record IsOf (kind : RequestKind) (item : Instruction) : Type 0 where

@@ -9,7 +9,6 @@ pub mod KindsFound
 pub mod KindsRead
 pub mod KindsWritten
 pub mod Leasts
-pub mod PatternItems
 pub mod Puts
 mod ReportRows
 pub mod RequestData

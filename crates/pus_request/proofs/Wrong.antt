@@ -1,11 +1,12 @@
 -- Where the first wrong octet of an item stands.
-use Rattle.std.proofs.Common.{◌≡◌, ℕ, suc, ◌+◌, ◌-◌, ◌<◌, ◌≤◌, Bool, true, false, List, [], ◌∷◌, length, drop, Option, Some, None, refl, sym, ◌∙◌, ap, arith, below_more, subst}
+use Rattle.std.proofs.Common.{◌≡◌, ℕ, suc, ◌+◌, ◌-◌, ◌<◌, ◌≤◌, Bool, true, false, not, List, [], ◌∷◌, length, drop, Option, Some, None, refl, sym, ◌∙◌, ap, arith, below_more, subst}
 use Rattle.std.proofs.lemmas.Bool.{lt-ltb, le-ltb, ltb-false, ltb-true, cond-true, cond-false}
 use Rattle.std.proofs.lemmas.List.{drop-drop}
+use Rattle.std.specs.List.{position_or_len}
 use Rattle.std.specs.Prelude.{MatchOption, if◌then◌else◌, is_some, nat_lt}
 use Rattle.pst_model.specs.Layouts.{OnePattern, RequestKind, is_wrong_in, store_field, width_of}
 use Rattle.pst_model.specs.Least.{first_below, least}
-use Rattle.control_defs.specs.PatternOctets.{is_wrong_in_pattern}
+use Rattle.control_defs.specs.PatternOctets.{first_wrong_in_pattern, is_wrong_in_pattern, pattern_places}
 use Rattle.pst_model.specs.Requests.{is_wrong_at, place_of}
 use Rattle.pst_model.proofs.KindsRead.{IsRight}
 use Rattle.pst_model.proofs.Leasts.{none-below}
@@ -14,6 +15,20 @@ use Rattle.pst_model.proofs.WholeRequests.{HasRightItems, first_wrong-item}
 -- a place from the front of the data is that of the first in an item, where there is one
 abbrev pub IsPlace : (first : Option ℕ) (at : ℕ) → Option ℕ → Type 0
 IsPlace first at found = MatchOption found (first ≡ None) (λ place. (at ≤ place) × (first ≡ Some (place - at)))
+
+-- the first of the five places of a pattern that passes a test is the least number below 5 that does
+
+one_place : (passes : Bool) (m n : ℕ) → m ≡ n → (if not passes then 1 + m else 0) ≡ (if passes then 0 else suc n)
+one_place true m n same = refl
+one_place false m n same = omega (arith, same)
+
+least-place : (test : ℕ → Bool) → position_or_len test pattern_places ≡ least test 5
+least-place test = one_place (test 0) _ _ (one_place (test 1) _ _ (one_place (test 2) _ _ (one_place (test 3) _ _ (one_place (test 4) 0 0 refl))))
+
+-- so the first wrong octet of a pattern is found by its place
+pub place_in_pattern : (octets : List ℕ) (at : ℕ) (found : Option ℕ) → IsPlace (first_wrong_in_pattern octets) at found → IsPlace (first_below (is_wrong_in_pattern octets) 5) at found
+place_in_pattern octets at found is =
+    subst (λ (first : Option ℕ). IsPlace first at found) (ap (λ (n : ℕ). if nat_lt n 5 then Some n else None) (least-place (is_wrong_in_pattern octets))) is
 
 abbrev among : (number bound : ℕ) → Option ℕ
 among number bound = if nat_lt number bound then Some number else None

@@ -5,7 +5,6 @@
 
 mod items;
 mod kinds;
-mod patterns;
 mod reading;
 mod spelled;
 mod writing;

@@ -1,13 +1,11 @@
 // Items of the data of a request, and the instructions that they spell.
-ghost use Rattle.std.specs.Prelude.{◌≡◌, ◌+◌, ◌-◌, ◌≤◌, ◌<◌, MatchOption, None, Some, length, drop, slice_index};
-ghost use Rattle.control_defs.specs.Instructions.{store_kind_in};
+ghost use Rattle.std.specs.Prelude.{◌≡◌, ◌+◌, ◌-◌, ◌≤◌, ◌<◌, MatchOption, None, Some, length, drop};
 ghost use Rattle.pst_model.specs.Layouts.{is_wrong_in, width_of};
 ghost use Rattle.pst_model.specs.Least.{first_below};
 ghost use Rattle.pus_request.specs.Kinds.{row_of};
 
 use crate::kinds::Kind;
-use crate::patterns::{pattern_at, wrong_in_pattern};
-use control_defs::{Instruction, StoreKind};
+use control_defs::{Instruction, StoreKind, pattern_at, wrong_in_pattern};
 use octet_fields::{u16_at, u32_at, u48_at};
 
 /// The octet of a bounded store; that of a circular one is 0.
@@ -28,18 +26,6 @@ pub(crate) fn wrong_in_item(kind: Kind, body: &[u8], at: usize) -> Option<usize>
     }
 }
 
-// What the store of the item at `at` is to do when it is full.
-fn store_kind_at(body: &[u8], at: usize) -> StoreKind
-    requires { at < length body.now }
-    ensures { result ≡ store_kind_in (slice_index body.now at) }
-{
-    if body[at] == 0 {
-        StoreKind::Circular
-    } else {
-        StoreKind::Bounded
-    }
-}
-
 fn start_range_at(body: &[u8], at: usize) -> Instruction
     requires { at + 14 ≤ length body.now }
     ensures { result ≡ (row_of Kind.StartRange).spelled (drop at body.now) }
@@ -57,7 +43,7 @@ fn create_at(body: &[u8], at: usize) -> Instruction
 {
     Instruction::Create {
         store: u16_at(body, at),
-        kind: store_kind_at(body, at + 2),
+        kind: StoreKind::from_octet(body[at + 2]),
         size: u32_at(body, at + 3),
         channel: body[at + 7],
     }

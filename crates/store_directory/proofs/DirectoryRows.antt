@@ -1,18 +1,16 @@
 -- Worked examples of directories, changes and their octets, as equations that the check computes.
-use Rattle.std.proofs.Common.{◌≡◌, ℕ, ◌+◌, ◌*◌, true, false, List, [], ◌∷◌, ◌++◌, length, replicate, drop, refl}
-use Rattle.std.specs.Prelude.{Option, Some, None}
+use Rattle.std.proofs.Common.{◌≡◌, ℕ, List, [], ◌∷◌, ◌++◌, length, replicate, drop, refl}
+use Rattle.std.specs.Prelude.{Some, None}
 use Rattle.control_defs.specs.PatternOctets.{spelled_pattern}
-use Rattle.control_defs.specs.declared.instructions.StoreKind.TheVariants.{Circular, Bounded}
-use Rattle.control_defs.specs.declared.patterns.Pattern.{Pattern}
-use Rattle.control_defs.specs.declared.patterns.Pattern.TheVariants.{Every, App, Service, Kind}
+use Rattle.control_defs.specs.declared.patterns.Pattern.TheVariants.{Every}
 use Rattle.record_view.specs.declared.link.Link.{Link}
 use Rattle.store_directory.specs.declared.row.Row.{Row}
-use Rattle.store_directory.specs.Changes.{Change, Clock, Forward, Gone, Links, Put, Swap, Types, apply, apply_all}
-use Rattle.store_directory.specs.Checkpoints.{Checkpoint, checkpoint_in, checkpoint_octets, is_lawful, read_checkpoint}
+use Rattle.store_directory.specs.Changes.{Change, Clock, Links, Put, apply, apply_all}
+use Rattle.store_directory.specs.Checkpoints.{checkpoint_in, checkpoint_octets, is_lawful, read_checkpoint}
 use Rattle.store_directory.specs.Directory.{Directory, Listed, with_stores}
-use Rattle.store_directory.specs.Entries.{change_in, changes_from, changes_in, change_octets, entry_octets, width_in}
+use Rattle.store_directory.specs.Entries.{change_in, changes_from, changes_in, entry_octets, width_in}
 use Rattle.store_directory.specs.Format.{first_directory, first_row, first_store}
-use Rattle.store_directory.specs.Rows.{row_in, row_octets}
+use Rattle.store_directory.specs.Rows.{row_in}
 
 abbrev first_row_octets : List ℕ
 first_row_octets = 0 ∷ 1 ∷ 0 ∷ 0 ∷ 0 ∷ 0 ∷ 64 ∷ 1 ∷ 3 ∷ replicate 20 0

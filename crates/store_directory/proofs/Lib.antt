@@ -1,3 +1,4 @@
+pub mod ChangeTexts
 pub mod DirectoryRows
 pub mod Swaps
 pub mod Trims
@@ -11,3 +12,9 @@ pub mod Removed
 pub mod Puts
 pub mod PutSlots
 pub mod Applied
+pub mod EntryTexts
+pub mod LinkTexts
+pub mod Numbers
+pub mod RowTexts
+pub mod Widths
+pub mod WrittenChanges

@@ -1,6 +1,6 @@
 -- A directory as the text of a checkpoint, with the erase counts of the device's blocks.
-use Rattle.std.specs.Prelude.{◌≡◌, ◌<◌, ◌^◌, ℕ, zero, suc, ◌+◌, ◌*◌, Bool, true, ◌&&◌, ◌==◌, nat_le, nat_lt, List, [], ◌∷◌, ◌++◌, length, drop, slice_index, is_some, Option, Some, None}
-use Rattle.std.specs.List.{All, list_all}
+use Rattle.std.specs.Prelude.{ℕ, zero, suc, ◌*◌, Bool, ◌&&◌, ◌==◌, nat_le, nat_lt, List, [], ◌∷◌, ◌++◌, length, drop, is_some, Option, Some, None}
+use Rattle.std.specs.List.{flat_map, list_all}
 use Rattle.octet_fields.specs.Fields.{big_bytes, field}
 use Rattle.control_defs.specs.Lists.{is_pattern_list}
 use Rattle.control_defs.specs.PatternOctets.{pattern_octets, spelled_pattern}
@@ -13,8 +13,7 @@ use Rattle.store_directory.specs.Options.{◌>>=◌, given}
 use Rattle.store_directory.specs.Rows.{row_in, row_octets}
 
 abbrev pub patterns_octets : List Pattern → List ℕ
-patterns_octets [] = []
-patterns_octets (pattern ∷ patterns) = pattern_octets pattern ++ patterns_octets patterns
+patterns_octets patterns = flat_map pattern_octets patterns
 
 -- a store: its row (29), the number of its patterns (1) and these (5 each), the number of its links
 -- (2) and these (6 each)
@@ -24,12 +23,10 @@ listed_octets s =
     ++ big_bytes 2 (length s.links) ++ links_octets s.links
 
 abbrev pub stores_octets : List Listed → List ℕ
-stores_octets [] = []
-stores_octets (s ∷ stores) = listed_octets s ++ stores_octets stores
+stores_octets stores = flat_map listed_octets stores
 
 abbrev pub counts_octets : List ℕ → List ℕ
-counts_octets [] = []
-counts_octets (count ∷ counts) = big_bytes 4 count ++ counts_octets counts
+counts_octets counts = flat_map (big_bytes 4) counts
 
 -- A checkpoint: now (6), reports (2), the number of the forward patterns (1) and these (5 each), the
 -- number of stores (1) and these, and the erase count of each block (4).

@@ -1,24 +1,21 @@
 -- Changes as octets, and the changes of an entry's text.
 use Rattle.std.specs.Prelude.{◌<◌, ◌^◌, ℕ, zero, suc, ◌+◌, ◌*◌, Bool, true, false, ◌&&◌, nat_le, if◌then◌else◌, List, [], ◌∷◌, ◌++◌, length, take, drop, slice_index, Option, Some, None}
-use Rattle.std.specs.List.{All}
+use Rattle.std.specs.List.{All, flat_map}
 use Rattle.std.specs.Option.{option_map}
 use Rattle.octet_fields.specs.Fields.{big_bytes, field}
 use Rattle.control_defs.specs.PatternOctets.{pattern_octets, spelled_pattern}
 use Rattle.control_defs.specs.Patterns.{HasPatternOctets, IsPattern}
-use Rattle.control_defs.specs.declared.patterns.Pattern.{Pattern}
 use Rattle.record_view.specs.declared.link.Link.{Link}
 use Rattle.store_directory.specs.Changes.{Change, Clock, Forward, Gone, Links, Put, Swap, Types}
 use Rattle.store_directory.specs.Options.{◌>>=◌}
 use Rattle.store_directory.specs.Rows.{FitsRow, row_in, row_octets}
-use Rattle.store_directory.specs.declared.row.Row.{Row}
 
 -- a link: its block (2) and the number of its first record (4)
 abbrev pub link_octets : Link → List ℕ
 link_octets link = big_bytes 2 link.block ++ big_bytes 4 link.first
 
 abbrev pub links_octets : List Link → List ℕ
-links_octets [] = []
-links_octets (link ∷ links) = link_octets link ++ links_octets links
+links_octets links = flat_map link_octets links
 
 -- so many links from the front
 abbrev pub links_in : (count : ℕ) → List ℕ → List Link
@@ -45,8 +42,7 @@ change_octets (Swap store link) = 7 ∷ big_bytes 2 store ++ link_octets link
 
 -- changes one after another
 abbrev pub entry_octets : List Change → List ℕ
-entry_octets [] = []
-entry_octets (change ∷ changes) = change_octets change ++ entry_octets changes
+entry_octets changes = flat_map change_octets changes
 
 -- how many octets a change of this tag has, where it begins the text: 0 where there is no such tag
 abbrev pub width_by : (tag : ℕ) → List ℕ → ℕ
@@ -121,3 +117,12 @@ FitsChange (Types store add pattern) =
 FitsChange (Links store links) =
     (store < 2 ^ 16) × (length links < 2 ^ 16) × All FitsLink links
 FitsChange (Swap store link) = (store < 2 ^ 16) × FitsLink link
+
+-- The same of a change in memory, whose other numbers have their types: its time has 48 bits, the APID
+-- of its pattern eleven, and its links are few enough to be counted in two octets.
+abbrev pub CanBeWritten : Change → Type 0
+CanBeWritten (Clock now reports) = now < 2 ^ 48
+CanBeWritten (Forward add pattern) = IsPattern pattern
+CanBeWritten (Types store add pattern) = IsPattern pattern
+CanBeWritten (Links store links) = length links < 2 ^ 16
+CanBeWritten _ = Unit {0}

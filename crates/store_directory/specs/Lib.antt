@@ -8,4 +8,5 @@ pub mod Checkpoints
 pub mod Slots
 pub mod Appended
 pub mod Kept
+pub mod Spelled
 pub mod Format

@@ -9,14 +9,20 @@ use record_view::Link;
 pub enum Change<'a> {
     /// The last storage time, below 2^48 in 1/65,536 seconds, and the number of reports, below
     /// 16,384.
-    Clock { now: u64, reports: u16 },
+    Clock {
+        now: u64,
+        reports: u16,
+    },
     /// A store's row becomes this one, or a new store goes last. The links that hold no record of
     /// the row any more leave the front.
     Put(Row),
     /// The store with this identifier goes.
     Gone(u16),
     /// A forward pattern is added, or else removed.
-    Forward { add: bool, pattern: Pattern },
+    Forward {
+        add: bool,
+        pattern: Pattern,
+    },
     /// A pattern of a store is added, or else removed.
     Types {
         store: u16,
@@ -24,7 +30,14 @@ pub enum Change<'a> {
         pattern: Pattern,
     },
     /// Blocks are added behind those of a store.
-    Links { store: u16, links: &'a [Link] },
+    Links {
+        store: u16,
+        links: &'a [Link],
+    },
     /// The last block of a store is replaced.
-    Swap { store: u16, block: u16, first: u32 },
+    Swap {
+        store: u16,
+        block: u16,
+        first: u32,
+    },
 }

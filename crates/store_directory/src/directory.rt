@@ -182,7 +182,7 @@ impl Directory {
                 add,
                 pattern,
             } => fault_of(self.stores.change_types(store, add, pattern)),
-            Change::Links { store, links } => fault_of(self.stores.append(store, links)),
+            Change::Links { store, links } => fault_of(self.stores.append(store, &links)),
             Change::Swap {
                 store,
                 block,

@@ -3,14 +3,24 @@
 #![tactic(auto)]
 
 mod change;
+mod change_text;
+mod change_writing;
 mod directory;
 mod fault;
+mod laws;
+mod link_text;
 mod links;
 mod row;
+mod row_text;
 mod slot;
 mod stores;
 
 pub use change::Change;
+pub use change_writing::write_change;
 pub use directory::Directory;
 pub use fault::ApplyFault;
+pub use laws::{written_changes_are_read, written_entries_are_read};
 pub use row::Row;
+
+#[cfg(test)]
+mod text_tests;

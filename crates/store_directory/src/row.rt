@@ -1,6 +1,6 @@
 // The row of a store.
 ghost use Rattle.std.specs.Prelude.{◌≡◌};
-ghost use Rattle.store_directory.specs.Rows.{FitsRow, is_lawful_row, is_range, range_end, range_next};
+ghost use Rattle.store_directory.specs.Rows.{FitsRow, is_lawful_row, range_end, range_next};
 
 use control_defs::StoreKind;
 
@@ -32,21 +32,11 @@ pub struct Row {
 }
 
 // The positions of a range, and 0 where there is none.
-fn positions_of(range: Option<(u32, u32)>) -> (u32, u32)
+pub(crate) fn positions_of(range: Option<(u32, u32)>) -> (u32, u32)
     ensures next { result.0 ≡ range_next range }
     ensures end { result.1 ≡ range_end range }
 {
     range.unwrap_or((0, 0))
-}
-
-// Whether a range is none, or lies within so many packets.
-fn is_range(range: Option<(u32, u32)>, count: u32) -> bool
-    ensures { result ≡ is_range count range }
-{
-    match range {
-        Some((next, end)) => next < end && end <= count,
-        None => true,
-    }
 }
 
 // Each number of a row fits the octets of its field.
@@ -57,18 +47,21 @@ fn octets_fit(row: Row)
 }
 
 impl Row {
-    /// Whether the row may stand: its numbers are within their limits.
+    /// Whether a store may have the row: its numbers are in their ranges, and its positions among its
+    /// packets.
     pub fn is_lawful(&self) -> bool
         ensures lawful { result ≡ is_lawful_row self.now }
         ensures fits { FitsRow self.now }
     {
         octets_fit(*self);
-        1 <= self.size
-            && self.size <= 100_000
-            && 1 <= self.channel
-            && self.channel <= 7
+        let positions_lie_within = match self.range {
+            Some((next, end)) => next < end && end <= self.count,
+            None => true,
+        };
+        (1..=100_000).contains(&self.size)
+            && (1..=7).contains(&self.channel)
             && self.count <= self.size
             && self.behind <= self.count
-            && is_range(self.range, self.count)
+            && positions_lie_within
     }
 }

@@ -10,6 +10,7 @@ ghost use Rattle.store_directory.specs.Rows.{FitsRow, is_by, is_lawful_row};
 ghost use Rattle.store_directory.specs.Slots.{IsSlot, KeepsSlot, PutsRow, listed_of};
 
 use crate::fault::{ApplyFault, Unfit};
+use crate::link_text::LinkList;
 use crate::links::Links;
 use crate::row::Row;
 use block_pool::blocks_for;
@@ -42,7 +43,6 @@ pub(crate) fn change_patterns(
     } else {
         patterns.remove(pattern).is_ok()
     };
-    let _ = patterns.list();
     if changed { Ok(()) } else { Err(Unfit) }
 }
 
@@ -137,18 +137,18 @@ impl Slot {
 
     /// Puts links behind those of the store. There are some, and they are no more than the blocks
     /// that the store reserves.
-    pub(crate) fn append(&mut self, links: &[Link]) -> Result<(), Unfit>
+    pub(crate) fn append<L: LinkList>(&mut self, links: &L) -> Result<(), Unfit>
         requires { IsSlot self.old }
-        ensures ok { OnOk result (with_links links.now (listed_of self.old) ≡ Some (listed_of self.new)) }
-        ensures err { OnErr result ((with_links links.now (listed_of self.old) ≡ None) × (self.new ≡ self.old)) }
+        ensures ok { OnOk result (with_links (L.listed links.now) (listed_of self.old) ≡ Some (listed_of self.new)) }
+        ensures err { OnErr result ((with_links (L.listed links.now) (listed_of self.old) ≡ None) × (self.new ≡ self.old)) }
         ensures keeps { KeepsSlot self.old self.new }
     {
         let most = blocks_for(self.row.size) as usize;
-        if links.is_empty() || self.links.list().len() + links.len() > most {
+        if links.len() == 0 || links.len() > most - self.links.list().len() {
             return Err(Unfit);
         }
         for at in 0..links.len() {
-            self.links.push(links[at]);
+            self.links.push(links.get(at));
         }
         Ok(())
     }

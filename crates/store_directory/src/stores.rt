@@ -8,6 +8,7 @@ ghost use Rattle.store_directory.specs.Rows.{FitsRow, is_lawful_row};
 ghost use Rattle.store_directory.specs.Slots.{PutsStore, largest_in};
 
 use crate::fault::{ApplyFault, Unfit};
+use crate::link_text::LinkList;
 use crate::row::Row;
 use crate::slot::Slot;
 use block_pool::{blocks_for, fits};
@@ -208,9 +209,9 @@ impl Stores {
     }
 
     /// Puts links behind those of a store.
-    pub(crate) fn append(&mut self, store: u16, links: &[Link]) -> Result<(), Unfit>
-        ensures ok { OnOk result (change_store store (with_links links.now) self.old.stores ≡ Some self.new.stores) }
-        ensures err { OnErr result ((change_store store (with_links links.now) self.old.stores ≡ None) × (self.new ≡ self.old)) }
+    pub(crate) fn append<L: LinkList>(&mut self, store: u16, links: &L) -> Result<(), Unfit>
+        ensures ok { OnOk result (change_store store (with_links (L.listed links.now)) self.old.stores ≡ Some self.new.stores) }
+        ensures err { OnErr result ((change_store store (with_links (L.listed links.now)) self.old.stores ≡ None) × (self.new ≡ self.old)) }
         ensures sizes { self.new.sizes ≡ self.old.sizes }
     {
         let Some(at) = self.find(store) else {

@@ -1,6 +1,6 @@
 use Rattle.std.proofs.Common.{subst}
 use Rattle.octet_fields.specs.Fields.{Writes}
-use Rattle.pus_report.proofs.Lists.{Listed-more}
+use Rattle.octet_fields.proofs.Rows.{Listed-more}
 use Rattle.pus_report.proofs.rows.put_rows.Goals as goal
 
 pub loop-row-preserved : goal.loop-row-preserved
