@@ -18,3 +18,4 @@ pub mod Numbers
 pub mod RowTexts
 pub mod Widths
 pub mod WrittenChanges
+pub mod Folded

@@ -9,4 +9,5 @@ pub mod Slots
 pub mod Appended
 pub mod Kept
 pub mod Spelled
+pub mod Folds
 pub mod Format

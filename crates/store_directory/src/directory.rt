@@ -5,8 +5,10 @@ ghost use Rattle.store_directory.specs.Changes.{Change, Clock, Forward, apply};
 ghost use Rattle.store_directory.specs.Directory.{IsDirectory, empty_directory, place_of, reserved_by};
 ghost use Rattle.store_directory.specs.Kept.{IsChange, NeedsRoom, change_of, largest_after};
 ghost use Rattle.store_directory.specs.Slots.{largest_in};
+ghost use Rattle.store_directory.specs.Spelled.{meaning_of};
 
 use crate::change::Change;
+use crate::change_text::Spelled;
 use crate::fault::{ApplyFault, Unfit};
 use crate::row::Row;
 use crate::slot::change_patterns;
@@ -188,6 +190,23 @@ impl Directory {
                 block,
                 first,
             } => fault_of(self.stores.swap_last(store, Link { block, first })),
+        }
+    }
+
+    /// Makes a change that was read from a text.
+    pub(crate) fn make(&mut self, alloc: Global, change: &Spelled<'_>) -> Result<(), ApplyFault>
+        requires { IsChange (meaning_of change.now) }
+        ensures ok { OnOk result (apply self.old.directory (meaning_of change.now) ≡ Some self.new.directory) }
+        ensures unfit { (result ≡ Err ApplyFault.Unfit) → (apply self.old.directory (meaning_of change.now) ≡ None) }
+        ensures memory { (result ≡ Err ApplyFault.NoMemory)
+            → NeedsRoom (meaning_of change.now) (largest_in self.old.sizes) }
+        ensures err { OnErr result (self.new ≡ self.old) }
+        ensures sizes { OnOk result ((identifier : ℕ) → largest_in self.new.sizes identifier
+            ≡ largest_after (meaning_of change.now) (largest_in self.old.sizes) identifier) }
+    {
+        match change {
+            Spelled::Links { store, links } => fault_of(self.stores.append(*store, links)),
+            Spelled::Other(change) => self.apply(alloc, change),
         }
     }
 }

@@ -7,6 +7,7 @@ mod change_text;
 mod change_writing;
 mod directory;
 mod fault;
+mod folding;
 mod laws;
 mod link_text;
 mod links;
@@ -18,7 +19,7 @@ mod stores;
 pub use change::Change;
 pub use change_writing::write_change;
 pub use directory::Directory;
-pub use fault::ApplyFault;
+pub use fault::{ApplyFault, FoldFault};
 pub use laws::{written_changes_are_read, written_entries_are_read};
 pub use row::Row;
 
