@@ -1,8 +1,15 @@
 pub mod ChangeTexts
+pub mod CountTexts
 pub mod DirectoryRows
 pub mod EntryTexts
+pub mod KeptCheckpoints
+pub mod Lawful
 pub mod LinkTexts
 pub mod Numbers
+pub mod PatternTexts
 pub mod RowTexts
+pub mod Steps
+pub mod StoreTexts
 pub mod Widths
 pub mod WrittenChanges
+pub mod WrittenCheckpoints

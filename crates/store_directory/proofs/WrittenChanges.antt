@@ -57,7 +57,7 @@ links_back links few fit =
 change_by-octets : (change : Change) → FitsChange change → change_by (slice_index (change_octets change) 0) (change_octets change) ≡ Some change
 change_by-octets (Clock now reports) fits =
     (λ i. Some (Clock (big_number-reads_back 6 now (big_bytes 2 reports) fits.0 i) (big_number-reads_back 2 reports [] fits.1 i)))
-change_by-octets (Put row) fits = ap (option_map Put) (row_in-octets row fits)
+change_by-octets (Put row) fits = ap (option_map Put) (row_in-octets row [] fits)
 change_by-octets (Gone store) fits = (λ i. Some (Gone (big_number-reads_back 2 store [] fits i)))
 change_by-octets (Forward add pattern) fits =
     (λ i. add_back add i >>= λ add. pattern_back pattern fits.0 i >>= λ pattern. Some (Forward add pattern))

@@ -4,6 +4,8 @@ pub mod Directory
 pub mod Changes
 pub mod Entries
 pub mod Checkpoints
+pub mod Fitting
 pub mod Kept
+pub mod Views
 pub mod Spelled
 pub mod Format

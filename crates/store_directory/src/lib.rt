@@ -5,14 +5,20 @@
 mod change;
 mod change_text;
 mod change_writing;
+mod checkpoint_text;
 mod laws;
 mod link_text;
+mod pattern_text;
 mod row;
 mod row_text;
+mod store_text;
 
 pub use change::Change;
 pub use change_writing::write_change;
-pub use laws::{written_changes_are_read, written_entries_are_read};
+pub use laws::{
+    kept_directories_are_read, written_changes_are_read, written_checkpoints_are_read,
+    written_entries_are_read,
+};
 pub use row::Row;
 
 #[cfg(test)]
