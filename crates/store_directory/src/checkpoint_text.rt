@@ -32,6 +32,13 @@ impl<'a> Model for CountText<'a> {
 }
 
 impl<'a> CountText<'a> {
+    /// How many counts there are.
+    pub(crate) fn len(&self) -> usize
+        ensures { result ≡ length self.now }
+    {
+        self.count
+    }
+
     /// Writes the counts into a slice of as many.
     pub(crate) fn copy_into(&self, wear: &mut [u32])
         requires { length wear.old ≡ length self.now }

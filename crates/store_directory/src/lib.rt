@@ -22,4 +22,6 @@ pub use laws::{
 pub use row::Row;
 
 #[cfg(test)]
+mod checkpoint_tests;
+#[cfg(test)]
 mod text_tests;
