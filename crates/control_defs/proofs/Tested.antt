@@ -1,5 +1,5 @@
 -- What the test of a list of patterns tells.
-use Rattle.std.proofs.Common.{◌≡◌, ℕ, suc, ◌+◌, ◌≤◌, ◌==◌, Bool, true, false, not, ◌&&◌, nat_le, List, [], ◌∷◌, ◌++◌, length, refl, arith, length-append}
+use Rattle.std.proofs.Common.{◌≡◌, ℕ, suc, ◌+◌, ◌≤◌, ◌==◌, Bool, true, false, not, ◌&&◌, nat_le, List, [], ◌∷◌, ◌++◌, length, refl, sym, ◌∙◌, arith, length-append}
 use Rattle.std.specs.Prelude.{All}
 use Rattle.std.specs.List.{AllPairs, list_all}
 use Rattle.std.specs.declared.cmp.Ordering.TheVariants.{Less}
@@ -90,3 +90,17 @@ tested-append xs q full each h is_full is_each =
 pub IsPatternList-append : (xs : List Pattern) (q : Pattern) → IsPatternList xs → IsPattern q → is_pattern_list (xs ++ q ∷ []) ≡ true → IsPatternList (xs ++ q ∷ [])
 IsPatternList-append xs q h range tested =
     lawful-from_test (xs ++ q ∷ []) (All-append IsPattern xs (q ∷ []) h.ranges (All-cons IsPattern q [] range (λ k d lt. absurd (omega arith)))) tested
+
+in_order-front : (xs ys : List Pattern) → are_in_order (xs ++ ys) ≡ true → are_in_order xs ≡ true
+in_order-front [] ys h = refl
+in_order-front (p ∷ xs) ys h =
+    let both = and_parts (list_all (may_precede p) (xs ++ ys)) (are_in_order (xs ++ ys)) h in
+    let each = and_parts (list_all (may_precede p) xs) (list_all (may_precede p) ys) (sym (list_all-append (may_precede p) xs ys) ∙ both.0) in
+    and_from (list_all (may_precede p) xs) (are_in_order xs) each.0 (in_order-front xs ys both.1)
+
+-- the front of a list that may be kept may be kept
+pub tested-front : (xs ys : List Pattern) → is_pattern_list (xs ++ ys) ≡ true → is_pattern_list xs ≡ true
+tested-front xs ys h =
+    let both = and_parts (nat_le (length (xs ++ ys)) 64) (are_in_order (xs ++ ys)) h in
+    let few = leb-true (length (xs ++ ys)) 64 both.0 in
+    and_from (nat_le (length xs) 64) (are_in_order xs) (le-leb (length xs) 64 (omega (arith, length-append xs ys))) (in_order-front xs ys both.1)

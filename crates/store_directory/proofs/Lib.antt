@@ -1,4 +1,5 @@
 pub mod ChangeTexts
+pub mod CountTexts
 pub mod DirectoryRows
 pub mod Swaps
 pub mod Trims
@@ -13,9 +14,15 @@ pub mod Puts
 pub mod PutSlots
 pub mod Applied
 pub mod EntryTexts
+pub mod KeptCheckpoints
+pub mod Lawful
 pub mod LinkTexts
 pub mod Numbers
+pub mod PatternTexts
 pub mod RowTexts
+pub mod Steps
+pub mod StoreTexts
 pub mod Widths
 pub mod WrittenChanges
 pub mod Folded
+pub mod WrittenCheckpoints

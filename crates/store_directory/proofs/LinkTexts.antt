@@ -6,7 +6,8 @@ use Rattle.byteorder.specs.Numbers.{big_number-reads_back}
 use Rattle.byteorder.specs.Endian.{big_number}
 use Rattle.octet_fields.specs.Fields.{big_bytes, field}
 use Rattle.record_view.specs.declared.link.Link.{Link}
-use Rattle.store_directory.specs.Entries.{FitsLink, link_octets, links_in, links_octets}
+use Rattle.store_directory.specs.Entries.{link_octets, links_in, links_octets}
+use Rattle.store_directory.specs.Directory.{FitsLink}
 use Rattle.store_directory.proofs.Numbers.{HasOctets, HasOctets-drop, field-drop, field-lt}
 
 pub length-links_in : (count : ℕ) (octets : List ℕ) → length (links_in count octets) ≡ count

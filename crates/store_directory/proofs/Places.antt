@@ -3,7 +3,7 @@ use Rattle.std.proofs.Common.{◌≡◌, ℕ, zero, suc, ◌+◌, ◌<◌, ◌�
 use Rattle.std.specs.Prelude.{IsSome, Option, Some, None, nat_lt, slice_get, position, remove, if◌then◌else◌}
 use Rattle.std.specs.List.{prefix_len}
 use Rattle.std.specs.Option.{option_map}
-use Rattle.std.proofs.lemmas.Bool.{cond-false, cond-true, eqb-true, le-ltb, lt-ltb, ltb-false, ltb-true}
+use Rattle.std.proofs.lemmas.Bool.{cond-false, cond-true, eq-eqb, eqb-true, le-ltb, lt-ltb, ltb-false, ltb-true}
 use Rattle.store_directory.specs.Directory.{Listed, find_store, identifiers, place_of, put_store, without_store}
 
 -- a position, element by element
@@ -102,3 +102,16 @@ pub within-first : (p : ℕ → Bool) (stores : List Listed) (i : ℕ) → IsFir
 within-first p [] i first = absurd first
 within-first p (s ∷ stores) zero first = omega arith
 within-first p (s ∷ stores) (suc i) first = omega (arith, within-first p stores i first.1)
+
+-- the last store
+
+pub find-last : (new : Listed) (stores : List Listed) → IsAbsent (nat_eq new.identifier) (identifiers stores) → find_store new.identifier (stores ++ new ∷ []) ≡ Some new
+find-last new [] absent = cond-true (nat_eq new.identifier new.identifier) (Some new) None (eq-eqb new.identifier new.identifier refl)
+find-last new (s ∷ stores) absent =
+    cond-false (nat_eq new.identifier s.identifier) (Some s) (find_store new.identifier (stores ++ new ∷ [])) absent.0 ∙ find-last new stores absent.1
+
+pub put-again : (old new : Listed) (stores : List Listed) → new.identifier ≡ old.identifier → IsAbsent (nat_eq new.identifier) (identifiers stores) → put_store new (stores ++ old ∷ []) ≡ stores ++ new ∷ []
+put-again old new [] same absent = cond-true (nat_eq new.identifier old.identifier) (new ∷ []) (old ∷ new ∷ []) (eq-eqb new.identifier old.identifier same)
+put-again old new (s ∷ stores) same absent =
+    cond-false (nat_eq new.identifier s.identifier) (new ∷ stores ++ old ∷ []) (s ∷ put_store new (stores ++ old ∷ [])) absent.0
+    ∙ ap (λ (l : List Listed). s ∷ l) (put-again old new stores same absent.1)

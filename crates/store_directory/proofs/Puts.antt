@@ -87,7 +87,7 @@ pub trimmed-none : (first count : ℕ) → trimmed first count [] ≡ []
 trimmed-none first zero = refl
 trimmed-none first (suc count) = refl
 
-swapped : (a b : ℕ) → nat_eq a b ≡ false → nat_eq b a ≡ false
+pub swapped : (a b : ℕ) → nat_eq a b ≡ false → nat_eq b a ≡ false
 swapped a b apart = false_from_ne_true (nat_eq b a) (λ is. eqb-false a b apart (sym (eqb-true b a is)))
 
 -- one more identifier, which no other store has

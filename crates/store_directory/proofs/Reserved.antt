@@ -12,9 +12,12 @@ reserved-at [] at row within is = absurd (omega arith)
 reserved-at (s ∷ stores) zero row within is = ap (λ (r : Row). blocks_for_size r.size + reserved_by stores) (sym is)
 reserved-at (s ∷ stores) (suc at) row within is = reserved-at stores at row (omega arith) is
 
+pub reserved-append : (front back : List Listed) → reserved_by (front ++ back) ≡ reserved_by front + reserved_by back
+reserved-append [] back = omega arith
+reserved-append (s ∷ front) back = omega (arith, reserved-append front back)
+
 pub reserved-pushed : (stores : List Listed) (s : Listed) → reserved_by (stores ++ s ∷ []) ≡ reserved_by stores + blocks_for_size s.size
-reserved-pushed [] s = omega arith
-reserved-pushed (t ∷ stores) s = omega (arith, reserved-pushed stores s)
+reserved-pushed stores s = omega (arith, reserved-append stores (s ∷ []))
 
 pub reserved-drop : (stores : List Listed) (at : ℕ) → reserved_by (drop at stores) ≤ reserved_by stores
 reserved-drop [] zero = omega arith

@@ -1,7 +1,7 @@
 -- A row that was written is read back.
-use Rattle.std.proofs.Common.{◌≡◌, ℕ, ◌+◌, ◌/◌, ◌%◌, ◌<◌, ◌==◌, ◌&&◌, ◌||◌, Bool, true, false, nat_le, nat_lt, ◌^◌, [], ◌∷◌, ◌++◌, Option, Some, None, refl, ◌∙◌, ap}
+use Rattle.std.proofs.Common.{◌≡◌, ℕ, ◌+◌, ◌/◌, ◌%◌, ◌^◌, ◌<◌, ◌==◌, ◌&&◌, ◌||◌, Bool, true, false, nat_le, nat_lt, List, ◌∷◌, ◌++◌, length, Option, Some, None, refl, ◌∙◌, ap, arith}
 use Rattle.std.specs.Prelude.{if◌then◌else◌}
-use Rattle.std.proofs.lemmas.Bool.{and_from, cond-true}
+use Rattle.std.proofs.lemmas.Bool.{cond-true, le-leb}
 use Rattle.byteorder.specs.Endian.{big_number}
 use Rattle.byteorder.specs.Numbers.{big_number-reads_back}
 use Rattle.octet_fields.specs.Fields.{big_bytes, field}
@@ -58,51 +58,54 @@ range_or_none : (range : Option (ℕ × ℕ)) → (has_range range || without_po
 range_or_none None = refl
 range_or_none (Some range) = refl
 
-range_back : (range : Option (ℕ × ℕ)) → range_next range < 2 ^ 32 → range_end range < 2 ^ 32
-    → (if has_range range then Some (big_number 4 (big_bytes 4 (range_next range) ++ big_bytes 4 (range_end range)), big_number 4 (big_bytes 4 (range_end range) ++ [])) else None) ≡ range
-range_back None next end = refl
-range_back (Some range) next end =
-    (λ i. Some (big_number-reads_back 4 range.0 (big_bytes 4 range.1) next i, big_number-reads_back 4 range.1 [] end i))
+range_back : (range : Option (ℕ × ℕ)) (rest : List ℕ) → range_next range < 2 ^ 32 → range_end range < 2 ^ 32
+    → (if has_range range then Some (big_number 4 (big_bytes 4 (range_next range) ++ (big_bytes 4 (range_end range) ++ rest)), big_number 4 (big_bytes 4 (range_end range) ++ rest)) else None) ≡ range
+range_back None rest next end = refl
+range_back (Some range) rest next end =
+    (λ i. Some (big_number-reads_back 4 range.0 (big_bytes 4 range.1 ++ rest) next i, big_number-reads_back 4 range.1 rest end i))
 
-is_text : (row : Row) → is_row_text (row_octets row) ≡ true
-is_text row =
-    let flags = flags_back row.storage row.open_on row.told (has_range row.range) in
-    let last : (nat_le 8 (flags_of row) || without_positions row.range) ≡ true =
-    ap (λ (set : Bool). set || without_positions row.range) flags.fourth ∙ range_or_none row.range in
-    and_from (nat_le (kind_octet row.kind) 1 && nat_lt (flags_of row) 16) (nat_le 8 (flags_of row) || without_positions row.range)
-    (and_from (nat_le (kind_octet row.kind) 1) (nat_lt (flags_of row) 16) (low_kind row.kind) flags.low) last
+module _ (row : Row) (rest : List ℕ) where
+  is_text : is_row_text (row_octets row ++ rest) ≡ true
+  is_text =
+      let long = le-leb 29 (length (row_octets row ++ rest)) (omega arith) in
+      let flags = flags_back row.storage row.open_on row.told (has_range row.range) in
+      let last : (nat_le 8 (flags_of row) || without_positions row.range) ≡ true =
+      ap (λ (set : Bool). set || without_positions row.range) flags.fourth ∙ range_or_none row.range in
+      rw (long, low_kind row.kind, flags.low, last) refl
 
-row_back : (row : Row) → FitsRow row → row_by (row_octets row) ≡ row
-row_back row fits =
-    let flags = flags_back row.storage row.open_on row.told (has_range row.range) in
-    let behind_behind = big_bytes 4 (range_next row.range) ++ big_bytes 4 (range_end row.range) in
-    let behind_count = big_bytes 4 row.behind ++ behind_behind in
-    let behind_first = big_bytes 4 row.count ++ behind_count in
-    let behind_size = row.channel ∷ flags_of row ∷ big_bytes 4 row.first ++ behind_first in
-    let behind_identifier = kind_octet row.kind ∷ big_bytes 4 row.size ++ behind_size in
-    let identifier = big_number-reads_back 2 row.identifier behind_identifier fits.identifier in
-    let size = big_number-reads_back 4 row.size behind_size fits.size in
-    let first = big_number-reads_back 4 row.first behind_first fits.first in
-    let count = big_number-reads_back 4 row.count behind_count fits.count in
-    let behind = big_number-reads_back 4 row.behind behind_behind fits.behind in
-    let range : range_in (row_octets row) ≡ row.range =
-    ap (λ (set : Bool). if set then Some (field 4 21 (row_octets row), field 4 25 (row_octets row)) else None) flags.fourth
-    ∙ range_back row.range fits.next fits.end in
-    (λ i. record {
-      identifier = identifier i;
-      kind = kind_back row.kind i;
-      size = size i;
-      channel = row.channel;
-      storage = flags.first i;
-      open_on = flags.second i;
-      told = flags.third i;
-      first = first i;
-      count = count i;
-      behind = behind i;
-      range = range i;
-    })
+  row_back : FitsRow row → row_by (row_octets row ++ rest) ≡ row
+  row_back fits =
+      let flags = flags_back row.storage row.open_on row.told (has_range row.range) in
+      let behind_next = big_bytes 4 (range_end row.range) ++ rest in
+      let behind_behind = big_bytes 4 (range_next row.range) ++ behind_next in
+      let behind_count = big_bytes 4 row.behind ++ behind_behind in
+      let behind_first = big_bytes 4 row.count ++ behind_count in
+      let behind_size = row.channel ∷ flags_of row ∷ big_bytes 4 row.first ++ behind_first in
+      let behind_identifier = kind_octet row.kind ∷ big_bytes 4 row.size ++ behind_size in
+      let identifier = big_number-reads_back 2 row.identifier behind_identifier fits.identifier in
+      let size = big_number-reads_back 4 row.size behind_size fits.size in
+      let first = big_number-reads_back 4 row.first behind_first fits.first in
+      let count = big_number-reads_back 4 row.count behind_count fits.count in
+      let behind = big_number-reads_back 4 row.behind behind_behind fits.behind in
+      let range : range_in (row_octets row ++ rest) ≡ row.range =
+      ap (λ (set : Bool). if set then Some (field 4 21 (row_octets row ++ rest), field 4 25 (row_octets row ++ rest)) else None) flags.fourth
+      ∙ range_back row.range rest fits.next fits.end in
+      (λ i. record {
+        identifier = identifier i;
+        kind = kind_back row.kind i;
+        size = size i;
+        channel = row.channel;
+        storage = flags.first i;
+        open_on = flags.second i;
+        told = flags.third i;
+        first = first i;
+        count = count i;
+        behind = behind i;
+        range = range i;
+      })
 
-pub row_in-octets : (row : Row) → FitsRow row → row_in (row_octets row) ≡ Some row
-unfolding row_in
-row_in-octets row fits =
-    cond-true (is_row_text (row_octets row)) (Some (row_by (row_octets row))) None (is_text row) ∙ ap Some (row_back row fits)
+  -- whatever stands behind it
+  pub row_in-octets : FitsRow row → row_in (row_octets row ++ rest) ≡ Some row
+  unfolding row_in
+  row_in-octets fits =
+      cond-true (is_row_text (row_octets row ++ rest)) (Some (row_by (row_octets row ++ rest))) None is_text ∙ ap Some (row_back fits)

@@ -13,7 +13,8 @@ use Rattle.control_defs.specs.PatternOctets.{pattern_octets, spelled_pattern}
 use Rattle.control_defs.proofs.PatternOctets.{length-pattern_octets, spelled_pattern-octets}
 use Rattle.record_view.specs.declared.link.Link.{Link}
 use Rattle.store_directory.specs.Changes.{Change, Clock, Forward, Gone, Links, Put, Swap, Types}
-use Rattle.store_directory.specs.Entries.{FitsChange, add_in, add_octet, change_by, change_in, change_octets, changes_in, entry_octets, FitsLink, link_octets, links_in, links_octets, width_in}
+use Rattle.store_directory.specs.Entries.{FitsChange, add_in, add_octet, change_by, change_in, change_octets, changes_in, entry_octets, link_octets, links_in, links_octets, width_in}
+use Rattle.store_directory.specs.Directory.{FitsLink}
 use Rattle.store_directory.specs.Options.{◌>>=◌}
 use Rattle.store_directory.proofs.ChangeTexts.{Begins_too, change_in-append, change_in-whole}
 use Rattle.store_directory.proofs.EntryTexts.{changes_in-nothing, changes_in-step, then_changes}
@@ -57,7 +58,7 @@ links_back links few fit =
 change_by-octets : (change : Change) → FitsChange change → change_by (slice_index (change_octets change) 0) (change_octets change) ≡ Some change
 change_by-octets (Clock now reports) fits =
     (λ i. Some (Clock (big_number-reads_back 6 now (big_bytes 2 reports) fits.0 i) (big_number-reads_back 2 reports [] fits.1 i)))
-change_by-octets (Put row) fits = ap (option_map Put) (row_in-octets row fits)
+change_by-octets (Put row) fits = ap (option_map Put) (row_in-octets row [] fits)
 change_by-octets (Gone store) fits = (λ i. Some (Gone (big_number-reads_back 2 store [] fits i)))
 change_by-octets (Forward add pattern) fits =
     (λ i. add_back add i >>= λ add. pattern_back pattern fits.0 i >>= λ pattern. Some (Forward add pattern))

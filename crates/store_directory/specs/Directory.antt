@@ -94,6 +94,10 @@ abbrev pub are_distinct : List ℕ → Bool
 are_distinct [] = true
 are_distinct (number ∷ numbers) = is_new number numbers && are_distinct numbers
 
+-- the numbers of a link fit their octets
+abbrev pub FitsLink : Link → Type 0
+FitsLink link = (link.block < 2 ^ 16) × (link.first < 2 ^ 32)
+
 -- What is kept of each store.
 pub record IsListed (s : Listed) : Type 0 where
   pub lawful : is_lawful_row s.row ≡ true
@@ -101,6 +105,7 @@ pub record IsListed (s : Listed) : Type 0 where
   pub patterns : IsPatternList s.patterns
   -- no more blocks than it reserves
   pub links : length s.links ≤ blocks_for_size s.size
+  pub fitting : All FitsLink s.links
 
 -- What is kept of the stores. 504 blocks are those of the largest device without the eight that no
 -- store may reserve.

@@ -7,6 +7,7 @@ use Rattle.control_defs.specs.PatternOctets.{pattern_octets, spelled_pattern}
 use Rattle.control_defs.specs.Patterns.{HasPatternOctets, IsPattern}
 use Rattle.record_view.specs.declared.link.Link.{Link}
 use Rattle.store_directory.specs.Changes.{Change, Clock, Forward, Gone, Links, Put, Swap, Types}
+use Rattle.store_directory.specs.Directory.{FitsLink}
 use Rattle.store_directory.specs.Options.{◌>>=◌}
 use Rattle.store_directory.specs.Rows.{FitsRow, row_in, row_octets}
 
@@ -101,10 +102,6 @@ changes_from (suc most) (octet ∷ text) = do
 -- the changes that a text spells from its first octet to its last
 unfoldable pub changes_in : List ℕ → Option (List Change)
 changes_in text = changes_from (length text) text
-
--- the numbers of a link fit their octets
-abbrev pub FitsLink : Link → Type 0
-FitsLink link = (link.block < 2 ^ 16) × (link.first < 2 ^ 32)
 
 -- a change can be written
 abbrev pub FitsChange : Change → Type 0

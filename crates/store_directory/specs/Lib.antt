@@ -7,7 +7,9 @@ pub mod Entries
 pub mod Checkpoints
 pub mod Slots
 pub mod Appended
+pub mod Fitting
 pub mod Kept
+pub mod Views
 pub mod Spelled
 pub mod Folds
 pub mod Format

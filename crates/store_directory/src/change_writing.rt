@@ -7,7 +7,7 @@ ghost use Rattle.store_directory.specs.Kept.{change_of};
 
 use crate::change::Change;
 use crate::change_text::{CLOCK, FORWARD, GONE, LINKS, PUT, SWAP, TYPES};
-use crate::link_text::put_links;
+use crate::link_text::{put_link_list, put_links};
 use crate::row_text::put_row;
 use control_defs::{Pattern, put_pattern};
 use octet_fields::{put_u8, put_u16, put_u32, put_u48};
@@ -96,16 +96,4 @@ fn put_edit(add: bool, pattern: Pattern, out: &mut [u8], at: usize) -> usize
 {
     put_u8(out, at, u8::from(add));
     put_pattern(pattern, out, at + 1)
-}
-
-/// Writes the number of links and these, and answers the place behind them. The rest of `out` stays.
-pub(crate) fn put_link_list(links: &[Link], out: &mut [u8], at: usize) -> usize
-    requires few { length links.now < 2 ^ 16 }
-    requires room { at + 2 + 6 * length links.now ≤ length out.old }
-    ensures place { result ≡ at + 2 + 6 * length links.now }
-    ensures written { Writes out.old out.new at
-        (big_bytes 2 (length links.now) ++ links_octets links.now) }
-{
-    put_u16(out, at, links.len() as u16);
-    put_links(links, out, at + 2)
 }

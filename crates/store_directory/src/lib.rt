@@ -5,23 +5,31 @@
 mod change;
 mod change_text;
 mod change_writing;
+mod checkpoint_text;
 mod directory;
 mod fault;
 mod folding;
 mod laws;
 mod link_text;
 mod links;
+mod pattern_text;
 mod row;
 mod row_text;
 mod slot;
+mod store_text;
 mod stores;
 
 pub use change::Change;
 pub use change_writing::write_change;
 pub use directory::Directory;
 pub use fault::{ApplyFault, FoldFault};
-pub use laws::{written_changes_are_read, written_entries_are_read};
+pub use laws::{
+    kept_directories_are_read, written_changes_are_read, written_checkpoints_are_read,
+    written_entries_are_read,
+};
 pub use row::Row;
 
+#[cfg(test)]
+mod checkpoint_tests;
 #[cfg(test)]
 mod text_tests;

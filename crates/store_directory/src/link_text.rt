@@ -1,8 +1,10 @@
 // Links, in memory or in a text: the block (2) and the number of its first record (4), one link behind
 // another.
-ghost use Rattle.std.specs.Prelude.{◌≡◌, ◌<◌, ◌≤◌, ◌+◌, ◌*◌, Some, length, slice_get};
-ghost use Rattle.octet_fields.specs.Fields.{Writes};
-ghost use Rattle.store_directory.specs.Entries.{FitsLink, link_octets, links_in, links_octets};
+ghost use Rattle.std.specs.Prelude.{◌++◌, ◌^◌, MatchOption, None, ◌≡◌, ◌<◌, ◌≤◌, ◌+◌, ◌*◌, Some, length, slice_get};
+ghost use Rattle.octet_fields.specs.Fields.{Writes, big_bytes};
+ghost use Rattle.store_directory.specs.Checkpoints.{link_list_in};
+ghost use Rattle.store_directory.specs.Entries.{link_octets, links_in, links_octets};
+ghost use Rattle.store_directory.specs.Directory.{FitsLink};
 
 use octet_fields::{put_u16, put_u32, u16_at, u32_at};
 use record_view::Link;
@@ -29,8 +31,8 @@ pub(crate) trait LinkList {
         ensures fits { FitsLink result };
 }
 
-// The numbers of a link fit their octets.
-fn in_range(link: Link) -> Link
+/// The link. The numbers of each fit their octets.
+pub(crate) fn in_range(link: Link) -> Link
     ensures same { result ≡ link }
     ensures fits { FitsLink result }
 {
@@ -113,4 +115,34 @@ pub(crate) fn put_links(links: &[Link], out: &mut [u8], at: usize) -> usize
         place += LINK;
     }
     place
+}
+
+/// The links whose number stands at the front, and what is behind them. None where the text ends
+/// before.
+pub(crate) fn links_from<'a>(text: &'a [u8]) -> Option<(LinkText<'a>, &'a [u8])>
+    ensures { MatchOption result (link_list_in text.now ≡ None)
+        (λ read. link_list_in text.now ≡ Some (read.0, read.1.now)) }
+{
+    if text.len() < 2 {
+        return None;
+    }
+    let count = u16_at(text, 0);
+    let octets = &text[2..];
+    let long = LINK * count as usize;
+    if octets.len() < long {
+        return None;
+    }
+    Some((LinkText::new(octets, count), &octets[long..]))
+}
+
+/// Writes the number of links and these, and answers the place behind them. The rest of `out` stays.
+pub(crate) fn put_link_list(links: &[Link], out: &mut [u8], at: usize) -> usize
+    requires few { length links.now < 2 ^ 16 }
+    requires room { at + 2 + 6 * length links.now ≤ length out.old }
+    ensures place { result ≡ at + 2 + 6 * length links.now }
+    ensures written { Writes out.old out.new at
+        (big_bytes 2 (length links.now) ++ links_octets links.now) }
+{
+    put_u16(out, at, links.len() as u16);
+    put_links(links, out, at + 2)
 }

@@ -18,6 +18,7 @@ pub(crate) const ROW: usize = 29;
 pub(crate) fn row_at(octets: &[u8]) -> Option<Row>
     ensures value { result ≡ row_in octets.now }
     ensures fits { IfSome result FitsRow }
+    ensures long { IfSome result (λ row. 29 ≤ length octets.now) }
 {
     if !is_row_text(octets) {
         return None;

@@ -10,7 +10,7 @@ ghost use Rattle.store_directory.specs.Rows.{FitsRow, is_by, is_lawful_row};
 ghost use Rattle.store_directory.specs.Slots.{IsSlot, KeepsSlot, PutsRow, listed_of};
 
 use crate::fault::{ApplyFault, Unfit};
-use crate::link_text::LinkList;
+use crate::link_text::{LinkList, in_range};
 use crate::links::Links;
 use crate::row::Row;
 use block_pool::blocks_for;
@@ -162,7 +162,7 @@ impl Slot {
         if self.links.list().is_empty() {
             return Err(Unfit);
         }
-        self.links.replace_last(link);
+        self.links.replace_last(in_range(link));
         Ok(())
     }
 }

@@ -17,7 +17,7 @@ returns-clause-keeps c = record {
   row = refl;
   largest = refl;
   slot = λ slot. record {
-    listed = record { lawful = slot.listed.lawful; fits = slot.listed.fits; patterns = c.change_patterns.ensures.lawful; links = slot.listed.links };
+    listed = record { lawful = slot.listed.lawful; fits = slot.listed.fits; patterns = c.change_patterns.ensures.lawful; links = slot.listed.links; fitting = slot.listed.fitting };
     within = slot.within;
     room = slot.room;
   };
