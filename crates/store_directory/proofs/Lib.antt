@@ -26,3 +26,5 @@ pub mod Widths
 pub mod WrittenChanges
 pub mod Folded
 pub mod WrittenCheckpoints
+pub mod WrittenStores
+pub mod CheckpointParts

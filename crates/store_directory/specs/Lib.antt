@@ -12,4 +12,5 @@ pub mod Kept
 pub mod Views
 pub mod Spelled
 pub mod Folds
+pub mod Written
 pub mod Format

@@ -6,6 +6,7 @@ mod change;
 mod change_text;
 mod change_writing;
 mod checkpoint_text;
+mod checkpointing;
 mod directory;
 mod fault;
 mod folding;
