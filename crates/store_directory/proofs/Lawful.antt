@@ -11,8 +11,8 @@ use Rattle.control_defs.specs.Lists.{is_pattern_list}
 use Rattle.control_defs.proofs.Tested.{tested-from}
 use Rattle.record_view.specs.declared.link.Link.{Link}
 use Rattle.store_directory.specs.Changes.{Put, apply, change_store, listed_by, put_row, with_links}
-use Rattle.store_directory.specs.Checkpoints.{apply_links, apply_stores, is_lawful}
-use Rattle.store_directory.specs.Directory.{Directory, IsDirectory, IsListed, Listed, are_distinct, find_store, identifiers, is_new, put_store, reserved_by, with_stores}
+use Rattle.store_directory.specs.Checkpoints.{apply_links, apply_stores, is_lawful, is_lawful_listed}
+use Rattle.store_directory.specs.Directory.{AreListed, Directory, IsDirectory, IsListed, Listed, are_distinct, find_store, identifiers, is_new, put_store, reserved_by, with_stores}
 use Rattle.store_directory.specs.Options.{◌>>=◌, given}
 use Rattle.store_directory.specs.Rows.{is_lawful_row}
 use Rattle.store_directory.specs.Views.{listed_as}
@@ -105,12 +105,17 @@ put_stores d front (s ∷ back) each distinct few reserved =
     ∙ ap (λ (l : List Listed). apply_stores (with_stores d l) back) (sym here)
     ∙ rest ∙ ap (λ (l : List Listed). Some (with_stores d (map bare l))) regrouped
 
+-- its rows fit as Puts in turn, and its links as Links
+pub steps-fit : (d : Directory) → AreListed d.stores → apply_stores (with_stores d []) d.stores ≡ Some (with_stores d (map bare d.stores))
+steps-fit d kept = put_stores d [] d.stores kept.each kept.distinct kept.few kept.reserved
+
 pub lawful-from_kept : (d : Directory) → IsDirectory d → is_lawful d ≡ true
 unfolding is_lawful
 lawful-from_kept d kept =
     let reports = lt-ltb d.reports 16384 kept.reports in
     let forward = tested-from d.forward kept.forward in
-    let patterns : list_all (λ s. is_pattern_list s.patterns) d.stores ≡ true =
-    list_all-from_AllPass (λ s. is_pattern_list s.patterns) d.stores (λ k s lt. tested-from _ (kept.stores.each k s lt).patterns) in
-    let stores = ap is_some (put_stores d [] d.stores kept.stores.each kept.stores.distinct kept.stores.few kept.stores.reserved) in
-    rw (reports, forward, patterns, kept.stores.distinct, stores) refl
+    let each : list_all is_lawful_listed d.stores ≡ true = list_all-from_AllPass is_lawful_listed d.stores (λ k s lt. listed (kept.stores.each k s lt)) in
+    rw (reports, forward, each, kept.stores.distinct, le-leb (length d.stores) 32 kept.stores.few, le-leb (reserved_by d.stores) 504 kept.stores.reserved) refl
+  where
+    listed : {s : Listed} → IsListed s → is_lawful_listed s ≡ true
+    listed {s} is = rw (is.lawful, tested-from s.patterns is.patterns, le-leb (length s.links) (blocks_for_size s.size) is.links) refl

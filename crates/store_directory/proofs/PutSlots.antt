@@ -13,7 +13,8 @@ use Rattle.block_pool.specs.Sizes.{blocks_for_size}
 use Rattle.store_directory.specs.Changes.{listed_by, put_row}
 use Rattle.store_directory.specs.Directory.{Listed, are_distinct, find_store, identifiers, place_of, put_store, reserved_by, trimmed}
 use Rattle.store_directory.specs.Rows.{is_lawful_row}
-use Rattle.store_directory.specs.Slots.{AreSlots, Held, IsEntry, IsSlot, PutsRow, PutsStore, greater, largest_in, listed_of, sizes_of, stores_of}
+use Rattle.store_directory.specs.Slots.{AreSlots, Held, IsEntry, AddsStore, IsSlot, PutsRow, PutsStore, greater, largest_in, listed_of, sizes_of, stores_of}
+use Rattle.store_directory.specs.Views.{listed_as}
 use Rattle.store_directory.specs.declared.row.Row.{Row}
 use Rattle.store_directory.specs.declared.slot.Slot.{Slot}
 use Rattle.store_directory.proofs.ChangedSlots.{StandsAt, found, own, put-written, shown, written-back}
@@ -75,64 +76,32 @@ module _ (row : Row) (es : Entries) (i k : ℕ) (s new : Slot) (slots : AreSlots
       ∙ ap (λ n. if nat_eq identifier row.identifier then n else largest_in (sizes_of es) identifier) (puts.largest ∙ ap (λ n. greater n row.size) (sym was-largest))
 
 -- a slot that is put behind the others, whose identifier none of them has
-module _ (row : Row) (es : Entries) (new : Slot) (slots : AreSlots es) (fresh : place_of row.identifier (stores_of es) ≡ None) (is : listed_of new ≡ record { row = row; patterns = []; links = [] }) where
-  absent : IsAbsent (nat_eq row.identifier) (identifiers (stores_of es))
-  absent = absent-position (nat_eq row.identifier) (identifiers (stores_of es)) fresh
-
-  own_row : new.row ≡ row
-  own_row = ap (λ l. l.row) is
+module _ (es : Entries) (new : Slot) (slots : AreSlots es) (fresh : place_of new.row.identifier (stores_of es) ≡ None) where
+  absent : IsAbsent (nat_eq new.row.identifier) (identifiers (stores_of es))
+  absent = absent-position (nat_eq new.row.identifier) (identifiers (stores_of es)) fresh
 
   abbrev pub pushed : Entries
-  pushed = es ++ (row.identifier, new) ∷ []
+  pushed = es ++ (new.row.identifier, new) ∷ []
 
   stores-are : stores_of pushed ≡ stores_of es ++ listed_of new ∷ []
-  stores-are = stores-pushed es row.identifier new
+  stores-are = stores-pushed es new.row.identifier new
 
-  reserved-are : reserved_by (stores_of pushed) ≡ reserved_by (stores_of es) + blocks_for_size row.size
-  reserved-are = ap reserved_by stores-are ∙ reserved-pushed (stores_of es) (listed_of new) ∙ ap (λ (r : Row). reserved_by (stores_of es) + blocks_for_size r.size) own_row
+  reserved-are : reserved_by (stores_of pushed) ≡ reserved_by (stores_of es) + blocks_for_size new.row.size
+  reserved-are = ap reserved_by stores-are ∙ reserved-pushed (stores_of es) (listed_of new)
 
-  pub slots-pushed : IsSlot new → length es < 32 → reserved_by (stores_of es) + blocks_for_size row.size ≤ 504 → AreSlots pushed
+  pub slots-pushed : IsSlot new → length es < 32 → reserved_by (stores_of es) + blocks_for_size new.row.size ≤ 504 → AreSlots pushed
   slots-pushed slot few most = record {
-    few = omega (arith, length-append es ((row.identifier, new) ∷ []), few);
+    few = omega (arith, length-append es ((new.row.identifier, new) ∷ []), few);
     reserved = omega (arith, reserved-are, most);
-    distinct =
-      subst (λ l. are_distinct (identifiers l) ≡ true) (sym stores-are)
-      (distinct-pushed (stores_of es) (listed_of new) slots.distinct (subst (λ (r : Row). IsAbsent (nat_eq r.identifier) (identifiers (stores_of es))) (sym own_row) absent));
-    each = All-push IsEntry es (row.identifier, new) slots.each (record { own = ap (λ r. r.identifier) own_row; slot = slot });
+    distinct = subst (λ l. are_distinct (identifiers l) ≡ true) (sym stores-are) (distinct-pushed (stores_of es) (listed_of new) slots.distinct absent);
+    each = All-push IsEntry es (new.row.identifier, new) slots.each (record { own = refl; slot = slot });
   }
 
-  pub row-pushed : IsSlot new → length es < 32 → is_lawful_row row ≡ true → reserved_by (stores_of es) + blocks_for_size row.size ≤ 504 → put_row row (stores_of es) ≡ Some (stores_of pushed)
-  row-pushed slot few lawful most =
-      let none = find-absent row.identifier (stores_of es) absent in
-      let listed : listed_by row (find_store row.identifier (stores_of es)) ≡ listed_of new =
-      ap (listed_by row) none ∙ ap (λ l. record { row = row; patterns = []; links = l }) (trimmed-none row.first row.count) ∙ sym is
-      in
-      let put : put_store (listed_of new) (stores_of es) ≡ stores_of pushed =
-      put-absent (listed_of new) (stores_of es) (subst (λ (r : Row). IsAbsent (nat_eq r.identifier) (identifiers (stores_of es))) (sym own_row) absent) ∙ sym stores-are
-      in
-      put-is row (stores_of es) (listed_of new) (stores_of pushed) listed put
-      (record {
-        lawful = ap is_lawful_row own_row ∙ lawful;
-        few = omega (arith, length-map pushed (λ (e : ℕ × Slot). listed_of e.1), length-append es ((row.identifier, new) ∷ []), few);
-        reserved = omega (arith, reserved-are, most);
-        links = slot.listed.links;
-      })
+  absent_key : IsAbsent (nat_eq new.row.identifier) (keys_of es)
+  absent_key = subst (λ l. IsAbsent (nat_eq new.row.identifier) l) (identifiers-keys es slots.each) absent
 
-  absent_key : IsAbsent (nat_eq row.identifier) (keys_of es)
-  absent_key = subst (λ l. IsAbsent (nat_eq row.identifier) l) (identifiers-keys es slots.each) absent
-
-  pub was-none : largest_in (sizes_of es) row.identifier ≡ 0
-  was-none = largest-absent row.identifier es absent_key
-
-  pub sizes-pushed : new.largest ≡ row.size → (identifier : ℕ) → largest_in (sizes_of pushed) identifier
-      ≡ (if nat_eq identifier row.identifier then greater (largest_in (sizes_of es) row.identifier) row.size else largest_in (sizes_of es) identifier)
-  sizes-pushed largest identifier =
-      largest-pushed row.identifier es new absent_key identifier
-      ∙ ap (λ n. if nat_eq identifier row.identifier then n else largest_in (sizes_of es) identifier) (largest ∙ sym (ap (λ n. greater n row.size) was-none ∙ greater-none row.size))
-    where
-      greater-none : (size : ℕ) → greater 0 size ≡ size
-      greater-none zero = refl
-      greater-none (suc size) = cond-true (nat_lt 0 (suc size)) (suc size) 0 (lt-ltb 0 (suc size) (omega arith))
+  pub sizes-pushed : (identifier : ℕ) → largest_in (sizes_of pushed) identifier ≡ (if nat_eq identifier new.row.identifier then new.largest else largest_in (sizes_of es) identifier)
+  sizes-pushed identifier = largest-pushed new.row.identifier es new absent_key identifier
 
 -- What is known where a slot is to take a row.
 pub record Replaces (row : Row) (es : Entries) (now : Held) (i k : ℕ) (s : Slot) : Type 0 where
@@ -174,39 +143,63 @@ module _ (row : Row) (es : Entries) (now : Held) (i k : ℕ) (s new : Slot) (r :
   same-after same = ap (λ t. shown (set_value_at es i t)) same ∙ ap shown (written-back es i k s r.at.there) ∙ r.view
 
 -- What is known where a slot is to go behind the others.
-pub record Creates (row : Row) (es : Entries) (now : Held) (new : Slot) : Type 0 where
+pub record Pushes (es : Entries) (now : Held) (new : Slot) : Type 0 where
   pub view : shown es ≡ now
   pub slots : AreSlots es
-  pub fresh : place_of row.identifier (stores_of es) ≡ None
+  pub fresh : place_of new.row.identifier (stores_of es) ≡ None
   pub few : length es < 32
-  pub most : reserved_by (stores_of es) + blocks_for_size row.size ≤ 504
-  pub is : listed_of new ≡ record { row = row; patterns = []; links = [] }
+  pub most : reserved_by (stores_of es) + blocks_for_size new.row.size ≤ 504
   pub slot : IsSlot new
 
-pub creates : (row : Row) (es : Entries) (now : Held) (new : Slot) → shown es ≡ now → AreSlots es → place_of row.identifier now.stores ≡ None → length now.stores < 32
-    → reserved_by now.stores + blocks_for_size row.size ≤ 504 → listed_of new ≡ record { row = row; patterns = []; links = [] } → IsSlot new → Creates row es now new
-creates row es now new view slots fresh few most is slot = record {
+pub pushes : (es : Entries) (now : Held) (new : Slot) → shown es ≡ now → AreSlots es → place_of new.row.identifier now.stores ≡ None → length now.stores < 32
+    → reserved_by now.stores + blocks_for_size new.row.size ≤ 504 → IsSlot new → Pushes es now new
+pushes es now new view slots fresh few most slot = record {
   view = view;
   slots = slots;
-  fresh = ap (λ h. place_of row.identifier h.stores) view ∙ fresh;
+  fresh = ap (λ h. place_of new.row.identifier h.stores) view ∙ fresh;
   few = omega (arith, length-map es (λ (e : ℕ × Slot). listed_of e.1), ap (λ h. length h.stores) view, few);
   most = omega (arith, ap (λ h. reserved_by h.stores) view, most);
-  is = is;
   slot = slot;
 }
 
-module _ (row : Row) (es : Entries) (now : Held) (new : Slot) (r : Creates row es now new) where
-  pub kept-created : AreSlots (pushed row es new r.slots r.fresh r.is)
-  kept-created = slots-pushed row es new r.slots r.fresh r.is r.slot r.few r.most
+module _ (es : Entries) (now : Held) (new : Slot) (r : Pushes es now new) where
+  pub kept-pushed : AreSlots (pushed es new r.slots r.fresh)
+  kept-pushed = slots-pushed es new r.slots r.fresh r.slot r.few r.most
 
-  pub puts-created : is_lawful_row row ≡ true → new.largest ≡ row.size → PutsStore row now (shown (pushed row es new r.slots r.fresh r.is))
-  puts-created lawful largest = record {
-    stores = ap (λ h. put_row row h.stores) (sym r.view) ∙ row-pushed row es new r.slots r.fresh r.is r.slot r.few lawful r.most;
-    largest = λ identifier. sizes-pushed row es new r.slots r.fresh r.is largest identifier
-      ∙ ap (λ h. if nat_eq identifier row.identifier then greater (largest_in h.sizes row.identifier) row.size else largest_in h.sizes identifier) r.view;
+  pub adds-pushed : AddsStore (listed_of new) new.largest now (shown (pushed es new r.slots r.fresh))
+  adds-pushed = record {
+    stores = stores-pushed es new.row.identifier new ∙ ap (λ h. h.stores ++ listed_of new ∷ []) r.view;
+    largest = λ identifier. sizes-pushed es new r.slots r.fresh identifier
+      ∙ ap (λ h. if nat_eq identifier new.row.identifier then new.largest else largest_in h.sizes identifier) r.view;
   }
 
 -- the map has no entry of an identifier that no store has
 pub no-entry : (identifier : ℕ) (es : Entries) (now : Held) → shown es ≡ now → AreSlots es → place_of identifier now.stores ≡ None → lookup (nat_eq identifier) es ≡ None
 no-entry identifier es now view slots none =
     (Missing-position (nat_eq identifier) es (place-keys identifier es slots.each ∙ ap (λ h. place_of identifier h.stores) view ∙ none)).value
+
+-- a row that is put behind the others, where no store has its identifier
+pub row-behind : (row : Row) (stores : List Listed) → place_of row.identifier stores ≡ None → is_lawful_row row ≡ true → length stores < 32 → reserved_by stores + blocks_for_size row.size ≤ 504
+    → put_row row stores ≡ Some (stores ++ listed_as row [] [] ∷ [])
+row-behind row stores fresh lawful few most =
+    let absent = absent-position (nat_eq row.identifier) (identifiers stores) fresh in
+    let new = listed_as row [] [] in
+    let listed : listed_by row (find_store row.identifier stores) ≡ new =
+    ap (listed_by row) (find-absent row.identifier stores absent) ∙ ap (listed_as row []) (trimmed-none row.first row.count)
+    in
+    put-is row stores new (stores ++ new ∷ []) listed (put-absent new stores absent)
+    (record { lawful = lawful; few = omega (arith, length-append stores (new ∷ []), few); reserved = omega (arith, reserved-pushed stores new, most); links = omega arith })
+
+greater-none : (size : ℕ) → greater 0 size ≡ size
+greater-none zero = refl
+greater-none (suc size) = cond-true (nat_lt 0 (suc size)) (suc size) 0 (lt-ltb 0 (suc size) (omega arith))
+
+-- a new store was put
+pub puts-new : (row : Row) (size : ℕ) (listed : Listed) (old new : Held) → AddsStore listed size old new → listed ≡ listed_as row [] [] → size ≡ row.size → place_of row.identifier old.stores ≡ None
+    → largest_in old.sizes row.identifier ≡ 0 → is_lawful_row row ≡ true → length old.stores < 32 → reserved_by old.stores + blocks_for_size row.size ≤ 504 → PutsStore row old new
+puts-new row size listed old new adds is large fresh none lawful few most = record {
+  stores = row-behind row old.stores fresh lawful few most ∙ ap Some (ap (λ (l : Listed). old.stores ++ l ∷ []) (sym is) ∙ sym adds.stores);
+  largest = λ identifier. adds.largest identifier
+    ∙ (λ i. if nat_eq identifier (is i).row.identifier then large i else largest_in old.sizes identifier)
+    ∙ ap (λ (n : ℕ). if nat_eq identifier row.identifier then n else largest_in old.sizes identifier) (sym (ap (λ (n : ℕ). greater n row.size) none ∙ greater-none row.size));
+}

@@ -2,15 +2,16 @@
 use Rattle.std.specs.Prelude.{ℕ, zero, suc, ◌*◌, Bool, ◌&&◌, ◌==◌, nat_le, nat_lt, List, [], ◌∷◌, ◌++◌, length, drop, is_some, Option, Some, None}
 use Rattle.std.specs.List.{flat_map, list_all}
 use Rattle.octet_fields.specs.Fields.{big_bytes, field}
+use Rattle.block_pool.specs.Sizes.{blocks_for_size}
 use Rattle.control_defs.specs.Lists.{is_pattern_list}
 use Rattle.control_defs.specs.PatternOctets.{pattern_octets, spelled_pattern}
 use Rattle.control_defs.specs.declared.patterns.Pattern.{Pattern}
 use Rattle.record_view.specs.declared.link.Link.{Link}
 use Rattle.store_directory.specs.Changes.{Links, Put, apply}
-use Rattle.store_directory.specs.Directory.{Directory, Listed, are_distinct, identifiers}
+use Rattle.store_directory.specs.Directory.{Directory, Listed, are_distinct, identifiers, reserved_by}
 use Rattle.store_directory.specs.Entries.{links_in, links_octets}
 use Rattle.store_directory.specs.Options.{◌>>=◌, given}
-use Rattle.store_directory.specs.Rows.{row_in, row_octets}
+use Rattle.store_directory.specs.Rows.{is_lawful_row, row_in, row_octets}
 
 abbrev pub patterns_octets : List Pattern → List ℕ
 patterns_octets patterns = flat_map pattern_octets patterns
@@ -111,6 +112,28 @@ checkpoint_in blocks text = do
   _ ← given (length text == 4 * blocks)
   Some (whole now reports forward stores (counts_in blocks text))
 
+-- whether a store may stand: its row and its patterns are lawful, and it has no more blocks than it
+-- reserves
+abbrev pub is_lawful_listed : Listed → Bool
+is_lawful_listed s =
+    is_lawful_row s.row && is_pattern_list s.patterns
+    && nat_le (length s.links) (blocks_for_size s.size)
+
+-- Whether a directory that a text spells may stand. It may if and only if its identifiers differ, its
+-- lists of patterns are lawful, and in turn each row fits as a Put, and its links as Links.
+unfoldable pub is_lawful : Directory → Bool
+is_lawful d =
+    nat_lt d.reports 16384 && is_pattern_list d.forward && list_all is_lawful_listed d.stores
+    && are_distinct (identifiers d.stores) && nat_le (length d.stores) 32
+    && nat_le (reserved_by d.stores) 504
+
+-- the lawful checkpoint that a text spells
+unfoldable pub read_checkpoint : (blocks : ℕ) → List ℕ → Option Checkpoint
+read_checkpoint blocks text = do
+  checkpoint ← checkpoint_in blocks text
+  _ ← given (is_lawful checkpoint.directory)
+  Some checkpoint
+
 -- the links of a store, where it has any
 abbrev pub apply_links : Directory → (store : ℕ) → List Link → Option Directory
 apply_links d store [] = Some d
@@ -123,17 +146,3 @@ apply_stores d (s ∷ stores) = do
   put ← apply d (Put s.row)
   linked ← apply_links put s.identifier s.links
   apply_stores linked stores
-
--- Whether a directory that a text spells may stand.
-unfoldable pub is_lawful : Directory → Bool
-is_lawful d =
-    nat_lt d.reports 16384 && is_pattern_list d.forward
-    && list_all (λ s. is_pattern_list s.patterns) d.stores && are_distinct (identifiers d.stores)
-    && is_some (apply_stores (record d { stores = [] }) d.stores)
-
--- the lawful checkpoint that a text spells
-unfoldable pub read_checkpoint : (blocks : ℕ) → List ℕ → Option Checkpoint
-read_checkpoint blocks text = do
-  checkpoint ← checkpoint_in blocks text
-  _ ← given (is_lawful checkpoint.directory)
-  Some checkpoint

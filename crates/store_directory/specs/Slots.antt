@@ -1,5 +1,5 @@
 -- Stores as they are kept in memory.
-use Rattle.std.specs.Prelude.{◌≡◌, ◌≤◌, ℕ, true, ◌==◌, nat_lt, if◌then◌else◌, List, [], ◌∷◌, length, map, Option, Some}
+use Rattle.std.specs.Prelude.{◌≡◌, ◌≤◌, ℕ, true, ◌==◌, nat_lt, if◌then◌else◌, List, [], ◌∷◌, ◌++◌, length, map, Option, Some}
 use Rattle.std.specs.List.{All}
 use Rattle.block_pool.specs.Sizes.{blocks_for_size}
 use Rattle.store_directory.specs.Changes.{listed_by, put_row}
@@ -71,3 +71,9 @@ pub record PutsStore (row : Row) (old new : Held) : Type 0 where
   pub largest : (identifier : ℕ) → largest_in new.sizes identifier
       ≡ (if identifier == row.identifier then greater (largest_in old.sizes row.identifier) row.size
         else largest_in old.sizes identifier)
+
+-- A store was put behind the others, and this is the greatest size that it has had.
+pub record AddsStore (listed : Listed) (size : ℕ) (old new : Held) : Type 0 where
+  pub stores : new.stores ≡ old.stores ++ listed ∷ []
+  pub largest : (identifier : ℕ) → largest_in new.sizes identifier
+      ≡ (if identifier == listed.identifier then size else largest_in old.sizes identifier)

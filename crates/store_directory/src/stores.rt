@@ -5,7 +5,7 @@ ghost use Rattle.control_defs.specs.Patterns.{IsPattern};
 ghost use Rattle.store_directory.specs.Changes.{change_store, put_row, remove_store, with_last, with_links, with_types};
 ghost use Rattle.store_directory.specs.Directory.{AreListed, place_of, reserved_by};
 ghost use Rattle.store_directory.specs.Rows.{FitsRow, is_lawful_row};
-ghost use Rattle.store_directory.specs.Slots.{PutsStore, largest_in};
+ghost use Rattle.store_directory.specs.Slots.{AddsStore, IsSlot, PutsStore, largest_in, listed_of};
 
 use crate::fault::{ApplyFault, Unfit};
 use crate::link_text::LinkList;
@@ -124,9 +124,23 @@ impl Stores {
         fits(self.reserved(), blocks_for(size), old, MOST_BLOCKS)
     }
 
-    // Puts a new store behind the others.
+    // Puts a store behind the others.
+    fn push(&mut self, slot: Slot) -> Result<(), AllocError>
+        requires fresh { place_of slot.row.identifier self.old.stores ≡ None }
+        requires few { length self.old.stores < 32 }
+        requires blocks { reserved_by self.old.stores + blocks_for_size slot.row.size ≤ 504 }
+        requires slot { IsSlot slot }
+        ensures ok { OnOk result (AddsStore (listed_of slot) slot.largest self.old self.new) }
+        ensures err { OnErr result (self.new ≡ self.old) }
+    {
+        self.slots.insert(slot.row.identifier, slot)?;
+        Ok(())
+    }
+
+    // Makes a new store, which has no pattern and no block, and puts it behind the others.
     fn create(&mut self, alloc: Global, row: Row) -> Result<(), AllocError>
         requires fresh { place_of row.identifier self.old.stores ≡ None }
+        requires new { largest_in self.old.sizes row.identifier ≡ 0 }
         requires lawful { IsTrue (is_lawful_row row) }
         requires fits { FitsRow row }
         requires few { length self.old.stores < 32 }
@@ -135,7 +149,7 @@ impl Stores {
         ensures err { OnErr result (self.new ≡ self.old) }
     {
         let slot = Slot::new(alloc, row)?;
-        self.slots.insert(row.identifier, slot)?;
+        self.push(slot)?;
         Ok(())
     }
 
