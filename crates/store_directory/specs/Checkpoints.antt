@@ -119,13 +119,16 @@ is_lawful_listed s =
     is_lawful_row s.row && is_pattern_list s.patterns
     && nat_le (length s.links) (blocks_for_size s.size)
 
+-- whether stores may stand together
+abbrev pub are_lawful : List Listed → Bool
+are_lawful stores =
+    list_all is_lawful_listed stores && are_distinct (identifiers stores)
+    && nat_le (length stores) 32 && nat_le (reserved_by stores) 504
+
 -- Whether a directory that a text spells may stand. It may if and only if its identifiers differ, its
 -- lists of patterns are lawful, and in turn each row fits as a Put, and its links as Links.
 unfoldable pub is_lawful : Directory → Bool
-is_lawful d =
-    nat_lt d.reports 16384 && is_pattern_list d.forward && list_all is_lawful_listed d.stores
-    && are_distinct (identifiers d.stores) && nat_le (length d.stores) 32
-    && nat_le (reserved_by d.stores) 504
+is_lawful d = nat_lt d.reports 16384 && is_pattern_list d.forward && are_lawful d.stores
 
 -- the lawful checkpoint that a text spells
 unfoldable pub read_checkpoint : (blocks : ℕ) → List ℕ → Option Checkpoint

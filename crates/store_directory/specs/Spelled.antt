@@ -14,8 +14,8 @@ meaning_of (variants.Links store links) = Links store links
 meaning_of (variants.Other change) = change_of change
 
 -- a store
-abbrev pub listed_of : StoreText → Listed
-listed_of s = record { row = s.row; patterns = s.patterns; links = s.links }
+abbrev pub text_of : StoreText → Listed
+text_of s = record { row = s.row; patterns = s.patterns; links = s.links }
 
 -- a checkpoint
 abbrev pub checkpoint_of : CheckpointText → Checkpoint

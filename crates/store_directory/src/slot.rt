@@ -1,5 +1,5 @@
 // One store of a directory in memory.
-ghost use Rattle.std.specs.Prelude.{◌≡◌, ◌+◌, ◌-◌, ◌≤◌, ◌<◌, ◌↔◌, ◌⊎◌, None, Some, Err, [], length, drop, OnOk, OnErr, IfOk, IsErr, IsTrue};
+ghost use Rattle.std.specs.Prelude.{◌≡◌, ◌+◌, ◌-◌, ◌≤◌, ◌<◌, ◌↔◌, ◌⊎◌, None, Some, Err, false, [], length, drop, OnOk, OnErr, IfOk, IsErr, IsTrue};
 ghost use Rattle.std.specs.List.{prefix_len};
 ghost use Rattle.block_pool.specs.Sizes.{blocks_for_size};
 ghost use Rattle.control_defs.specs.Lists.{IsPatternList};
@@ -7,12 +7,15 @@ ghost use Rattle.control_defs.specs.Patterns.{IsPattern};
 ghost use Rattle.store_directory.specs.Changes.{change_patterns, with_last, with_links, with_types};
 ghost use Rattle.store_directory.specs.Directory.{IsListed, trimmed};
 ghost use Rattle.store_directory.specs.Rows.{FitsRow, is_by, is_lawful_row};
+ghost use Rattle.store_directory.specs.Checkpoints.{is_lawful_listed};
+ghost use Rattle.store_directory.specs.Spelled.{text_of};
 ghost use Rattle.store_directory.specs.Slots.{IsSlot, KeepsSlot, PutsRow, listed_of};
 
 use crate::fault::{ApplyFault, Unfit};
 use crate::link_text::{LinkList, in_range};
 use crate::links::Links;
 use crate::row::Row;
+use crate::store_text::StoreText;
 use block_pool::blocks_for;
 use control_defs::{Pattern, Patterns};
 use record_view::Link;
@@ -80,6 +83,30 @@ impl Slot {
             links,
             largest: row.size,
         })
+    }
+
+    /// The store that a text spells. `Unfit` where it may not stand.
+    pub(crate) fn of_text(alloc: Global, store: &StoreText<'_>) -> Result<Slot, ApplyFault>
+        requires fits { FitsRow store.now.row }
+        ensures listed { IfOk result (λ slot. listed_of slot ≡ text_of store.now) }
+        ensures largest { IfOk result (λ slot. slot.largest ≡ store.now.row.size) }
+        ensures slot { IfOk result IsSlot }
+        ensures unfit { (result ≡ Err ApplyFault.Unfit) → (is_lawful_listed (text_of store.now) ≡ false) }
+    {
+        let Some(patterns) = store.patterns.to_patterns() else {
+            return Err(ApplyFault::Unfit);
+        };
+        if !store.row.is_lawful() {
+            return Err(ApplyFault::Unfit);
+        }
+        let Ok(mut slot) = Slot::new(alloc, store.row) else {
+            return Err(ApplyFault::NoMemory);
+        };
+        slot.patterns = patterns;
+        if store.links.len() > 0 && slot.append(&store.links).is_err() {
+            return Err(ApplyFault::Unfit);
+        }
+        Ok(slot)
     }
 
     // How many links at the front go, since their blocks hold none of the records of a row: all if it

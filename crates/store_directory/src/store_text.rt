@@ -4,7 +4,7 @@ ghost use Rattle.std.specs.Prelude.{◌≡◌, ◌<◌, ◌≤◌, ◌+◌, ◌^
 ghost use Rattle.octet_fields.specs.Fields.{Writes};
 ghost use Rattle.store_directory.specs.Checkpoints.{listed_in, listed_octets, stores_in};
 ghost use Rattle.store_directory.specs.Rows.{FitsRow};
-ghost use Rattle.store_directory.specs.Spelled.{listed_of};
+ghost use Rattle.store_directory.specs.Spelled.{text_of};
 ghost use Rattle.store_directory.specs.Views.{listed_as, stores_read};
 
 use crate::link_text::{LinkText, links_from, put_link_list};
@@ -26,7 +26,7 @@ pub(crate) struct StoreText<'a> {
 /// The store at the front of a text, and what is behind it. None where it is not spelled.
 pub(crate) fn store_from<'a>(text: &'a [u8]) -> Option<(StoreText<'a>, &'a [u8])>
     ensures store { MatchOption result (listed_in text.now ≡ None)
-        (λ read. listed_in text.now ≡ Some (listed_of read.0, read.1.now)) }
+        (λ read. listed_in text.now ≡ Some (text_of read.0, read.1.now)) }
     ensures fits { IfSome result (λ read. FitsRow read.0.row) }
 {
     let row = row_at(text)?;
@@ -66,7 +66,7 @@ impl<'a> StoresText<'a> {
     /// The next store. None where none is left.
     pub(crate) fn next_store(&mut self) -> Option<StoreText<'a>>
         ensures next { MatchOption result ((self.old ≡ []) × (self.new ≡ []))
-            (λ store. self.old ≡ listed_of store ∷ self.new) }
+            (λ store. self.old ≡ text_of store ∷ self.new) }
         ensures fits { IfSome result (λ store. FitsRow store.row) }
     {
         if self.count == 0 {

@@ -1,4 +1,4 @@
-use Rattle.store_directory.specs.Spelled.{listed_of}
+use Rattle.store_directory.specs.Spelled.{text_of}
 use Rattle.store_directory.proofs.StoreTexts.{IsBehind-broken, IsBehind-more}
 use Rattle.store_directory.proofs.store_text.behind_stores.Goals as goal
 
@@ -9,5 +9,5 @@ returns-in_err-rest c =
 
 pub loop-number-preserved : goal.loop-number-preserved
 loop-number-preserved c =
-    IsBehind-more c.args.count c.loop-number._number c.args.text.now c.loop-number.rest.now c.in_ok-rest.field-0-1.now (listed_of c.in_ok-rest.field-0-0)
+    IsBehind-more c.args.count c.loop-number._number c.args.text.now c.loop-number.rest.now c.in_ok-rest.field-0-1.now (text_of c.in_ok-rest.field-0-0)
     c.loop-number-test.true c.loop-number.invariant c.in_ok-rest.ensures.store
