@@ -1,16 +1,19 @@
 // The stores of a directory in memory, in the order of creation.
-ghost use Rattle.std.specs.Prelude.{◌≡◌, ◌+◌, ◌-◌, ◌≤◌, ◌<◌, ◌↔◌, ℕ, [], None, Some, Err, length, nat_eq, nat_lt, slice_get, if◌then◌else◌, IfErr, IfNone, IfOk, IfSome, OnOk, OnErr, IsTrue};
+ghost use Rattle.std.specs.Prelude.{◌≡◌, ◌+◌, ◌-◌, ◌≤◌, ◌<◌, ◌↔◌, ◌∷◌, ◌++◌, ℕ, List, [], None, Some, Err, false, length, nat_eq, nat_lt, slice_get, if◌then◌else◌, IfErr, IfNone, IfOk, IfSome, OnOk, OnErr, IsTrue};
 ghost use Rattle.block_pool.specs.Sizes.{blocks_for_size};
 ghost use Rattle.control_defs.specs.Patterns.{IsPattern};
 ghost use Rattle.store_directory.specs.Changes.{change_store, put_row, remove_store, with_last, with_links, with_types};
-ghost use Rattle.store_directory.specs.Directory.{AreListed, place_of, reserved_by};
+ghost use Rattle.store_directory.specs.Checkpoints.{are_lawful};
+ghost use Rattle.store_directory.specs.Directory.{AreListed, Listed, place_of, reserved_by};
 ghost use Rattle.store_directory.specs.Rows.{FitsRow, is_lawful_row};
+ghost use Rattle.store_directory.specs.Spelled.{text_of};
 ghost use Rattle.store_directory.specs.Slots.{AddsStore, IsSlot, PutsStore, largest_in, listed_of};
 
 use crate::fault::{ApplyFault, Unfit};
 use crate::link_text::LinkList;
 use crate::row::Row;
 use crate::slot::Slot;
+use crate::store_text::StoreText;
 use block_pool::{blocks_for, fits};
 use control_defs::{Pattern, Patterns};
 use indexmap::IndexMap;
@@ -186,6 +189,26 @@ impl Stores {
                 .create(alloc, row)
                 .map_err(|_| ApplyFault::NoMemory),
             _ => Err(ApplyFault::Unfit),
+        }
+    }
+
+    /// Puts a store that a text spells behind the others. `Unfit` where no stores may stand that begin
+    /// with these and it.
+    pub(crate) fn add(&mut self, alloc: Global, store: &StoreText<'_>) -> Result<(), ApplyFault>
+        requires fits { FitsRow store.now.row }
+        ensures ok { OnOk result (AddsStore (text_of store.now) store.now.row.size self.old self.new) }
+        ensures unfit { (result ≡ Err ApplyFault.Unfit) → ((rest : List Listed)
+            → are_lawful (self.old.stores ++ text_of store.now ∷ rest) ≡ false) }
+    {
+        if self.find(store.row.identifier).is_some() {
+            return Err(ApplyFault::Unfit);
+        }
+        if !self.has_place(store.row.size) {
+            return Err(ApplyFault::Unfit);
+        }
+        match Slot::of_text(alloc, store) {
+            Ok(slot) => self.push(slot).map_err(|_| ApplyFault::NoMemory),
+            Err(fault) => Err(fault),
         }
     }
 
