@@ -115,3 +115,8 @@ put-again old new [] same absent = cond-true (nat_eq new.identifier old.identifi
 put-again old new (s ∷ stores) same absent =
     cond-false (nat_eq new.identifier s.identifier) (new ∷ stores ++ old ∷ []) (s ∷ put_store new (stores ++ old ∷ [])) absent.0
     ∙ ap (λ (l : List Listed). s ∷ l) (put-again old new stores same absent.1)
+
+-- a store with another identifier behind the others
+pub find-other : (identifier : ℕ) (new : Listed) (stores : List Listed) → nat_eq identifier new.identifier ≡ false → find_store identifier (stores ++ new ∷ []) ≡ find_store identifier stores
+find-other identifier new [] other = cond-false (nat_eq identifier new.identifier) (Some new) None other
+find-other identifier new (s ∷ stores) other = ap (λ (o : Option Listed). if nat_eq identifier s.identifier then Some s else o) (find-other identifier new stores other)

@@ -1,8 +1,8 @@
 -- The stores where a row was put in the place of the one of a slot, or a slot was put behind the
 -- others.
-use Rattle.std.proofs.Common.{◌≡◌, ℕ, zero, suc, ◌+◌, ◌<◌, ◌≤◌, true, List, [], ◌∷◌, ◌++◌, length, map, nat_eq, refl, sym, ap, subst, inl, inr, ◌⊎◌, ◌∙◌, arith, length-append}
+use Rattle.std.proofs.Common.{◌≡◌, ℕ, zero, suc, ◌+◌, ◌<◌, ◌≤◌, Bool, true, false, List, [], ◌∷◌, ◌++◌, length, map, nat_eq, refl, sym, ap, subst, inl, inr, ◌⊎◌, ◌∙◌, arith, length-append}
 use Rattle.std.specs.Prelude.{IfSome, None, Option, Some, nat_lt, slice_get, if◌then◌else◌}
-use Rattle.std.proofs.lemmas.Bool.{cond-true, lt-ltb}
+use Rattle.std.proofs.lemmas.Bool.{cond-false, cond-true, eqb-true, lt-ltb}
 use Rattle.std.specs.Map.{keys_of, lookup}
 use Rattle.indexmap.proofs.MapLemmas.{Missing-position}
 use Rattle.std.specs.List.{All}
@@ -13,13 +13,13 @@ use Rattle.block_pool.specs.Sizes.{blocks_for_size}
 use Rattle.store_directory.specs.Changes.{listed_by, put_row}
 use Rattle.store_directory.specs.Directory.{Listed, are_distinct, find_store, identifiers, place_of, put_store, reserved_by, trimmed}
 use Rattle.store_directory.specs.Rows.{is_lawful_row}
-use Rattle.store_directory.specs.Slots.{AreSlots, Held, IsEntry, AddsStore, IsSlot, PutsRow, PutsStore, greater, largest_in, listed_of, sizes_of, stores_of}
+use Rattle.store_directory.specs.Slots.{AreSlots, Held, IsEntry, AddsStore, HasOwnSizes, IsSlot, PutsRow, PutsStore, greater, largest_in, listed_of, size_of, sizes_of, stores_of}
 use Rattle.store_directory.specs.Views.{listed_as}
 use Rattle.store_directory.specs.declared.row.Row.{Row}
 use Rattle.store_directory.specs.declared.slot.Slot.{Slot}
 use Rattle.store_directory.proofs.ChangedSlots.{StandsAt, found, own, put-written, shown, written-back}
 use Rattle.store_directory.proofs.Held.{Entries, each-written, entry-at, identifiers-written, identifiers-keys, place-keys, reserved-written, shown-at, stores-pushed}
-use Rattle.store_directory.proofs.Places.{IsAbsent, IsFirst, absent-position, find-absent, first-position, put-absent}
+use Rattle.store_directory.proofs.Places.{IsAbsent, IsFirst, absent-position, find-absent, find-last, find-other, first-position, put-absent}
 use Rattle.store_directory.proofs.Puts.{distinct-pushed, linked, put-is, trimmed-none}
 use Rattle.store_directory.proofs.Sizes.{largest-absent, largest-first, largest-pushed, largest-written}
 use Rattle.store_directory.proofs.Reserved.{reserved-pushed}
@@ -168,6 +168,7 @@ module _ (es : Entries) (now : Held) (new : Slot) (r : Pushes es now new) where
 
   pub adds-pushed : AddsStore (listed_of new) new.largest now (shown (pushed es new r.slots r.fresh))
   adds-pushed = record {
+    fresh = ap (λ h. place_of new.row.identifier h.stores) (sym r.view) ∙ r.fresh;
     stores = stores-pushed es new.row.identifier new ∙ ap (λ h. h.stores ++ listed_of new ∷ []) r.view;
     largest = λ identifier. sizes-pushed es new r.slots r.fresh identifier
       ∙ ap (λ h. if nat_eq identifier new.row.identifier then new.largest else largest_in h.sizes identifier) r.view;
@@ -203,3 +204,21 @@ puts-new row size listed old new adds is large fresh none lawful few most = reco
     ∙ (λ i. if nat_eq identifier (is i).row.identifier then large i else largest_in old.sizes identifier)
     ∙ ap (λ (n : ℕ). if nat_eq identifier row.identifier then n else largest_in old.sizes identifier) (sym (ap (λ (n : ℕ). greater n row.size) none ∙ greater-none row.size));
 }
+
+-- a store that was added, which has been no greater than it is
+pub own-sizes : (listed : Listed) (old new : Held) → AddsStore listed listed.size old new → HasOwnSizes old → HasOwnSizes new
+own-sizes listed old new adds own identifier = by (nat_eq identifier listed.identifier) refl
+  where
+    absent : IsAbsent (nat_eq listed.identifier) (identifiers old.stores)
+    absent = absent-position (nat_eq listed.identifier) (identifiers old.stores) adds.fresh
+
+    by : (test : Bool) → nat_eq identifier listed.identifier ≡ test → largest_in new.sizes identifier ≡ size_of (find_store identifier new.stores)
+    by true same =
+        adds.largest identifier
+        ∙ cond-true (nat_eq identifier listed.identifier) listed.size (largest_in old.sizes identifier) same
+        ∙ sym (ap size_of (ap (find_store identifier) adds.stores ∙ ap (λ (n : ℕ). find_store n (old.stores ++ listed ∷ [])) (eqb-true identifier listed.identifier same) ∙ find-last listed old.stores absent))
+    by false other =
+        adds.largest identifier
+        ∙ cond-false (nat_eq identifier listed.identifier) listed.size (largest_in old.sizes identifier) other
+        ∙ own identifier
+        ∙ sym (ap size_of (ap (find_store identifier) adds.stores ∙ find-other identifier listed old.stores other))

@@ -1,6 +1,7 @@
 -- The changes of texts made one after another.
-use Rattle.std.specs.Prelude.{◌≡◌, ◌<◌, ◌≤◌, ℕ, ◌+◌, List, [], ◌∷◌, length, take, drop, Option, Some, None}
+use Rattle.std.specs.Prelude.{◌≡◌, ◌<◌, ◌≤◌, ℕ, ◌+◌, false, List, [], ◌∷◌, length, take, drop, Option, Some, None}
 use Rattle.store_directory.specs.Changes.{Change, apply, apply_all}
+use Rattle.store_directory.specs.Checkpoints.{Checkpoint, checkpoint_in, is_lawful}
 use Rattle.store_directory.specs.Directory.{Directory}
 use Rattle.store_directory.specs.Entries.{change_in, changes_in, width_in}
 use Rattle.store_directory.specs.Kept.{Kept, NeedsRoom, largest_after, largest_after_all}
@@ -70,3 +71,14 @@ pub record Stops (fault : FoldFault) (text : List ℕ) (old new : Kept) : Type 0
   pub some : at < length text
   pub made : fold_entry old.directory (take at text) ≡ Some new.directory
   pub why : StopsHere fault text at new
+
+-- a checkpoint that is spelled and not lawful
+abbrev pub IsUnlawful : Option Checkpoint → Type 0
+IsUnlawful None = ⊥
+IsUnlawful (Some checkpoint) = is_lawful checkpoint.directory ≡ false
+
+-- Why the text of a checkpoint gives no directory: it spells none, or one that is not lawful.
+abbrev pub IsNoCheckpoint : FoldFault → (blocks : ℕ) → (text : List ℕ) → Type 0
+IsNoCheckpoint (Spelling place) blocks text = (place ≡ 0) × (checkpoint_in blocks text ≡ None)
+IsNoCheckpoint (Unfit place) blocks text = (place ≡ 0) × IsUnlawful (checkpoint_in blocks text)
+IsNoCheckpoint NoMemory blocks text = Unit {0}

@@ -1,9 +1,9 @@
 -- Stores as they are kept in memory.
-use Rattle.std.specs.Prelude.{◌≡◌, ◌≤◌, ℕ, true, ◌==◌, nat_lt, if◌then◌else◌, List, [], ◌∷◌, ◌++◌, length, map, Option, Some}
+use Rattle.std.specs.Prelude.{◌≡◌, ◌≤◌, ℕ, true, ◌==◌, nat_lt, if◌then◌else◌, List, [], ◌∷◌, ◌++◌, length, map, Option, Some, None}
 use Rattle.std.specs.List.{All}
 use Rattle.block_pool.specs.Sizes.{blocks_for_size}
 use Rattle.store_directory.specs.Changes.{listed_by, put_row}
-use Rattle.store_directory.specs.Directory.{IsListed, Listed, are_distinct, identifiers, reserved_by}
+use Rattle.store_directory.specs.Directory.{IsListed, Listed, are_distinct, find_store, identifiers, place_of, reserved_by}
 use Rattle.store_directory.specs.declared.row.Row.{Row}
 use Rattle.store_directory.specs.declared.slot.Slot.{Slot}
 
@@ -65,6 +65,15 @@ pub record Held : Type 0 where
   pub stores : List Listed
   pub sizes : List (ℕ × ℕ)
 
+-- the size of a store, and 0 where there is none
+abbrev pub size_of : Option Listed → ℕ
+size_of None = 0
+size_of (Some s) = s.size
+
+-- No store has been greater than it is.
+abbrev pub HasOwnSizes : Held → Type 0
+HasOwnSizes held = (identifier : ℕ) → largest_in held.sizes identifier ≡ size_of (find_store identifier held.stores)
+
 -- A row was put among the stores.
 pub record PutsStore (row : Row) (old new : Held) : Type 0 where
   pub stores : put_row row old.stores ≡ Some new.stores
@@ -74,6 +83,8 @@ pub record PutsStore (row : Row) (old new : Held) : Type 0 where
 
 -- A store was put behind the others, and this is the greatest size that it has had.
 pub record AddsStore (listed : Listed) (size : ℕ) (old new : Held) : Type 0 where
+  -- no store had its identifier
+  pub fresh : place_of listed.identifier old.stores ≡ None
   pub stores : new.stores ≡ old.stores ++ listed ∷ []
   pub largest : (identifier : ℕ) → largest_in new.sizes identifier
       ≡ (if identifier == listed.identifier then size else largest_in old.sizes identifier)

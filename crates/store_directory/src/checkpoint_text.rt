@@ -66,6 +66,7 @@ pub(crate) fn read_text<'a>(text: &'a [u8], blocks: usize) -> Option<CheckpointT
     ensures value { MatchOption result (checkpoint_in blocks text.now ≡ None)
         (λ read. checkpoint_in blocks text.now ≡ Some (checkpoint_of read)) }
     ensures now { IfSome result (λ read. read.now < 2 ^ 48) }
+    ensures counts { IfSome result (λ read. length read.wear ≡ blocks) }
 {
     if text.len() < 8 {
         return None;

@@ -1,14 +1,16 @@
 // The directory in memory.
-ghost use Rattle.std.specs.Prelude.{◌≡◌, ◌<◌, ◌≤◌, ◌^◌, ℕ, [], None, Some, Err, length, slice_get, is_ok, IfErr, IfOk, IfSome, OnOk, OnErr};
+ghost use Rattle.std.specs.Prelude.{◌≡◌, ◌<◌, ◌≤◌, ◌^◌, ℕ, [], true, false, None, Some, Err, length, slice_get, is_ok, IfErr, IfOk, IfSome, OnOk, OnErr};
 ghost use Rattle.control_defs.specs.Patterns.{IsPattern};
 ghost use Rattle.store_directory.specs.Changes.{Change, Clock, Forward, apply};
 ghost use Rattle.store_directory.specs.Directory.{IsDirectory, empty_directory, place_of, reserved_by};
 ghost use Rattle.store_directory.specs.Kept.{IsChange, NeedsRoom, change_of, largest_after};
-ghost use Rattle.store_directory.specs.Slots.{largest_in};
-ghost use Rattle.store_directory.specs.Spelled.{meaning_of};
+ghost use Rattle.store_directory.specs.Checkpoints.{is_lawful};
+ghost use Rattle.store_directory.specs.Slots.{HasOwnSizes, largest_in};
+ghost use Rattle.store_directory.specs.Spelled.{checkpoint_of, meaning_of};
 
 use crate::change::Change;
 use crate::change_text::Spelled;
+use crate::checkpoint_text::CheckpointText;
 use crate::fault::{ApplyFault, Unfit};
 use crate::row::Row;
 use crate::slot::change_patterns;
@@ -208,5 +210,37 @@ impl Directory {
             Spelled::Links { store, links } => fault_of(self.stores.append(*store, links)),
             Spelled::Other(change) => self.apply(alloc, change),
         }
+    }
+
+    /// The directory that a text spells. `Unfit` where it is not lawful.
+    #[tactic(auto, unfolding(crate::specs::Checkpoints::is_lawful))]
+    pub(crate) fn of_text(
+        alloc: Global,
+        text: &mut CheckpointText<'_>,
+    ) -> Result<Directory, ApplyFault>
+        requires { text.old.now < 2 ^ 48 }
+        ensures ok { IfOk result (λ d. d.directory ≡ (checkpoint_of text.old).directory) }
+        ensures own { IfOk result (λ d. HasOwnSizes (record { stores = d.stores; sizes = d.sizes })) }
+        ensures lawful { IfOk result (λ d. is_lawful d.directory ≡ true) }
+        ensures unfit { (result ≡ Err ApplyFault.Unfit)
+            → (is_lawful (checkpoint_of text.old).directory ≡ false) }
+        ensures wear { text.new.wear ≡ text.old.wear }
+    {
+        if text.reports >= REPORTS {
+            return Err(ApplyFault::Unfit);
+        }
+        let Some(forward) = text.forward.to_patterns() else {
+            return Err(ApplyFault::Unfit);
+        };
+        let Ok(mut stores) = Stores::new(alloc) else {
+            return Err(ApplyFault::NoMemory);
+        };
+        stores.add_all(alloc, &mut text.stores)?;
+        Ok(Directory {
+            time: text.now,
+            reports: text.reports,
+            forward,
+            stores,
+        })
     }
 }

@@ -7,13 +7,13 @@ ghost use Rattle.store_directory.specs.Checkpoints.{are_lawful};
 ghost use Rattle.store_directory.specs.Directory.{AreListed, Listed, place_of, reserved_by};
 ghost use Rattle.store_directory.specs.Rows.{FitsRow, is_lawful_row};
 ghost use Rattle.store_directory.specs.Spelled.{text_of};
-ghost use Rattle.store_directory.specs.Slots.{AddsStore, IsSlot, PutsStore, largest_in, listed_of};
+ghost use Rattle.store_directory.specs.Slots.{AddsStore, HasOwnSizes, IsSlot, PutsStore, largest_in, listed_of};
 
 use crate::fault::{ApplyFault, Unfit};
 use crate::link_text::LinkList;
 use crate::row::Row;
 use crate::slot::Slot;
-use crate::store_text::StoreText;
+use crate::store_text::{StoreText, StoresText};
 use block_pool::{blocks_for, fits};
 use control_defs::{Pattern, Patterns};
 use indexmap::IndexMap;
@@ -210,6 +210,19 @@ impl Stores {
             Ok(slot) => self.push(slot).map_err(|_| ApplyFault::NoMemory),
             Err(fault) => Err(fault),
         }
+    }
+
+    /// Puts all stores that a text spells behind the others. `Unfit` where they may not stand together.
+    pub(crate) fn add_all(&mut self, alloc: Global, stores: &mut StoresText<'_>) -> Result<(), ApplyFault>
+        ensures ok { OnOk result (self.new.stores ≡ self.old.stores ++ stores.old) }
+        ensures own { OnOk result (HasOwnSizes self.old → HasOwnSizes self.new) }
+        ensures unfit { (result ≡ Err ApplyFault.Unfit)
+            → (are_lawful (self.old.stores ++ stores.old) ≡ false) }
+    {
+        while let Some(store) = stores.next_store() {
+            self.add(alloc, &store)?;
+        }
+        Ok(())
     }
 
     /// The store with this identifier goes. The others keep their order.
