@@ -33,8 +33,8 @@ pub struct Row {
 }
 
 impl Row {
-    /// Whether a store may have the row: its numbers are in their ranges, and its positions among its
-    /// packets.
+    /// Whether a store may have the row: its numbers are in their ranges, and its positions among
+    /// its packets.
     pub fn is_lawful(&self) -> bool
         ensures { result ≡ is_lawful_row self.now }
     {
