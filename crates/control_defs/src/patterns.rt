@@ -58,8 +58,8 @@ impl Pattern {
             _ => false,
         }
     }
-    /// Whether it may stand in a list in front of the other one: it is before it, and neither covers
-    /// the other.
+    /// Whether it may stand in a list in front of the other one: it is before it, and neither
+    /// covers the other.
     pub(crate) fn may_precede(&self, other: &Pattern) -> bool
         ensures { result ≡ may_precede self.now other.now }
     {

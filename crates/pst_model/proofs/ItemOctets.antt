@@ -11,6 +11,7 @@ use Rattle.std.specs.Prelude.{All}
 use Rattle.byteorder.specs.Endian.{big_bytes, big_number}
 use Rattle.byteorder.specs.Numbers.{big_from-cons, big_from-lt}
 use Rattle.octet_fields.specs.Fields.{field}
+use Rattle.octet_fields.proofs.Numbers
 use Rattle.control_defs.specs.PatternOctets.{pattern_in, pattern_octets}
 use Rattle.control_defs.proofs.PatternOctets.{ReadsPattern}
 
@@ -30,7 +31,7 @@ pub number-lt : (n : ℕ) (octets : List ℕ) → AreOctets octets → big_numbe
 number-lt n octets fit = big_from-lt 0 n octets (octet-lt octets fit)
 
 pub field-lt : (n at : ℕ) (octets : List ℕ) → AreOctets octets → field n at octets < 256 ^ n
-field-lt n at octets fit = number-lt n (drop at octets) (All-drop (λ (octet : ℕ). octet < 256) at octets fit)
+field-lt n at octets fit = Numbers.field-lt n at octets (octet-lt octets fit)
 
 -- a byte of a number, by its place
 byte_at-pow : (k x : ℕ) → byte_at k x ≡ x / 256 ^ k % 256

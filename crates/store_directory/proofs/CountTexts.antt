@@ -6,7 +6,7 @@ use Rattle.std.proofs.lemmas.List.Elements.{All-head, All-tail}
 use Rattle.byteorder.specs.Numbers.{big_number-reads_back}
 use Rattle.octet_fields.specs.Fields.{field}
 use Rattle.store_directory.specs.Checkpoints.{counts_in, counts_octets}
-use Rattle.store_directory.proofs.Numbers.{field-drop}
+use Rattle.octet_fields.proofs.Numbers.{number_behind}
 
 pub length-counts_in : (count : ℕ) (text : List ℕ) → length (counts_in count text) ≡ count
 length-counts_in zero text = refl
@@ -17,7 +17,7 @@ pub get_or-counts_in : (count at d : ℕ) (text : List ℕ) → at < count → g
 get_or-counts_in zero at d text within = absurd (omega arith)
 get_or-counts_in (suc count) zero d text within = refl
 get_or-counts_in (suc count) (suc at) d text within =
-    get_or-counts_in count at d (drop 4 text) (omega arith) ∙ field-drop 4 4 (4 * at) text ∙ ap (λ (n : ℕ). field 4 n text) (omega arith)
+    get_or-counts_in count at d (drop 4 text) (omega arith) ∙ sym (number_behind 4 (4 * at) 4 text) ∙ ap (λ (n : ℕ). field 4 n text) (omega arith)
 
 -- one more count in its place
 pub copied-more : (wear counts : List ℕ) (i count : ℕ) → i < length wear → i < length counts → take i wear ≡ take i counts → count ≡ get_or counts i 0

@@ -17,7 +17,6 @@ pub mod EntryTexts
 pub mod KeptCheckpoints
 pub mod Lawful
 pub mod LinkTexts
-pub mod Numbers
 pub mod PatternTexts
 pub mod RowTexts
 pub mod Steps

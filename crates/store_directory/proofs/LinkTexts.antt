@@ -4,11 +4,11 @@ use Rattle.std.specs.Prelude.{All, slice_get}
 use Rattle.std.proofs.lemmas.List.Elements.{All-cons, All-head, All-tail}
 use Rattle.byteorder.specs.Numbers.{big_number-reads_back}
 use Rattle.byteorder.specs.Endian.{big_number}
+use Rattle.octet_fields.proofs.Numbers.{HasOctets, HasOctets-drop, field-lt, number_behind}
 use Rattle.octet_fields.specs.Fields.{big_bytes, field}
 use Rattle.record_view.specs.declared.link.Link.{Link}
-use Rattle.store_directory.specs.Entries.{link_octets, links_in, links_octets}
 use Rattle.store_directory.specs.Directory.{FitsLink}
-use Rattle.store_directory.proofs.Numbers.{HasOctets, HasOctets-drop, field-drop, field-lt}
+use Rattle.store_directory.specs.Entries.{link_octets, links_in, links_octets}
 
 pub length-links_in : (count : ℕ) (octets : List ℕ) → length (links_in count octets) ≡ count
 length-links_in zero octets = refl
@@ -21,9 +21,9 @@ link_at at octets = record { block = field 2 (6 * at) octets; first = field 4 (6
 link_behind : (at : ℕ) (octets : List ℕ) → link_at at (drop 6 octets) ≡ link_at (suc at) octets
 link_behind at octets =
     let block : field 2 (6 * at) (drop 6 octets) ≡ field 2 (6 * suc at) octets =
-    field-drop 2 6 (6 * at) octets ∙ ap (λ (n : ℕ). field 2 n octets) (omega arith) in
+    sym (number_behind 2 (6 * at) 6 octets) ∙ ap (λ (n : ℕ). field 2 n octets) (omega arith) in
     let first : field 4 (6 * at + 2) (drop 6 octets) ≡ field 4 (6 * suc at + 2) octets =
-    field-drop 4 6 (6 * at + 2) octets ∙ ap (λ (n : ℕ). field 4 n octets) (omega arith) in
+    sym (number_behind 4 (6 * at + 2) 6 octets) ∙ ap (λ (n : ℕ). field 4 n octets) (omega arith) in
     rw (block, first) refl
 
 pub slice_get-links_in : (count at : ℕ) (octets : List ℕ) → at < count → slice_get (links_in count octets) at ≡ Some (link_at at octets)

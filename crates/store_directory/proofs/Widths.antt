@@ -3,7 +3,7 @@ use Rattle.std.proofs.Common.{◌≡◌, ℕ, zero, suc, ◌+◌, ◌*◌, ◌�
 use Rattle.std.proofs.lemmas.List.{length-take-le}
 use Rattle.octet_fields.specs.Fields.{field}
 use Rattle.store_directory.specs.Entries.{width_by, width_in}
-use Rattle.store_directory.proofs.Numbers.{field-take}
+use Rattle.octet_fields.proofs.Numbers.{field-take}
 
 -- the number of links stands in the octets of a change of links
 links_width : (width : ℕ) (text : List ℕ) → 5 ≤ width → 5 + 6 * field 2 3 (take width text) ≡ 5 + 6 * field 2 3 text

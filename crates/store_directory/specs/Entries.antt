@@ -115,8 +115,8 @@ FitsChange (Links store links) =
     (store < 2 ^ 16) × (length links < 2 ^ 16) × All FitsLink links
 FitsChange (Swap store link) = (store < 2 ^ 16) × FitsLink link
 
--- The same of a change in memory, whose other numbers have their types: its time has 48 bits, the APID
--- of its pattern eleven, and its links are few enough to be counted in two octets.
+-- The same of a change in memory, whose other numbers have their types: its time has 48 bits, the
+-- APID of its pattern eleven, and its links are few enough to be counted in two octets.
 abbrev pub CanBeWritten : Change → Type 0
 CanBeWritten (Clock now reports) = now < 2 ^ 48
 CanBeWritten (Forward add pattern) = IsPattern pattern

@@ -68,7 +68,7 @@ pub(crate) fn read_change<'a>(text: &'a [u8]) -> Option<Reading<'a>>
 // with no tag.
 #[tactic(auto, unfolding(crate::specs::Entries::width_in))]
 fn width_of(text: &[u8]) -> Option<usize>
-    ensures whole { MatchOption result ((1 ≤ width_in text.now) → length text.now < width_in text.now)
+    ensures whole { MatchOption result (1 ≤ width_in text.now → length text.now < width_in text.now)
         (λ width. width ≡ width_in text.now) }
     ensures some { IfSome result (λ width. 1 ≤ width) }
     ensures within { IfSome result (λ width. width ≤ length text.now) }

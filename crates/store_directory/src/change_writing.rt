@@ -13,8 +13,8 @@ use control_defs::{Pattern, put_pattern};
 use octet_fields::{put_u8, put_u16, put_u32, put_u48};
 use record_view::Link;
 
-/// Writes a change at `at`, and answers the place behind it: its tag and its fields, as an entry has
-/// them. The rest of `out` stays. An entry is written by one call for each change.
+/// Writes a change at `at`, and answers the place behind it: its tag and its fields, as an entry
+/// has them. The rest of `out` stays. An entry is written by one call for each change.
 pub fn write_change(change: &Change<'_>, at: u32, out: &mut [u8]) -> u32
     requires fits { CanBeWritten (change_of change.now) }
     requires room { at + length (change_octets (change_of change.now)) ≤ length out.old }

@@ -1,6 +1,6 @@
 // Checkpoints by their octets, written out by hand.
 
-use crate::checkpoint_text::{put_counts, put_head, read_text};
+use crate::checkpoint_text::{CheckpointText, put_counts, put_head};
 use crate::link_text::LinkList;
 use crate::pattern_text::{patterns_from, put_patterns};
 use crate::row::Row;
@@ -48,7 +48,7 @@ fn whole() -> [u8; 71] {
 #[test]
 fn a_checkpoint_is_read_part_by_part(rt: HostRuntime) {
     let text = whole();
-    let Some(mut read) = read_text(&text, 2) else {
+    let Some(mut read) = CheckpointText::read(&text, 2) else {
         panic!(rt; "no checkpoint");
     };
     assert!(rt; read.now == 16 && read.reports == 1);
@@ -73,11 +73,11 @@ fn a_checkpoint_is_read_part_by_part(rt: HostRuntime) {
 #[test]
 fn a_text_of_other_octets_is_no_checkpoint(rt: HostRuntime) {
     let text = whole();
-    assert!(rt; read_text(&text, 1).is_none());
-    assert!(rt; read_text(&text, 3).is_none());
-    assert!(rt; read_text(&text[..67], 1).is_some());
-    assert!(rt; read_text(&text[..66], 1).is_none());
-    assert!(rt; read_text(&text[..63], 0).is_some());
+    assert!(rt; CheckpointText::read(&text, 1).is_none());
+    assert!(rt; CheckpointText::read(&text, 3).is_none());
+    assert!(rt; CheckpointText::read(&text[..67], 1).is_some());
+    assert!(rt; CheckpointText::read(&text[..66], 1).is_none());
+    assert!(rt; CheckpointText::read(&text[..63], 0).is_some());
     let shorter: [&[u8]; 8] = [
         &text[..0],
         &text[..7],
@@ -89,15 +89,15 @@ fn a_text_of_other_octets_is_no_checkpoint(rt: HostRuntime) {
         &text[..56],
     ];
     for text in shorter {
-        assert!(rt; read_text(text, 0).is_none());
+        assert!(rt; CheckpointText::read(text, 0).is_none());
     }
 }
 
 #[test]
 fn each_octet_that_is_looked_at_must_be_spelled(rt: HostRuntime) {
     // The number and the form of the forward patterns, an octet that a pattern does not use, the
-    // number of stores, the kind and the flags of the row, its positions without a range, the number
-    // and the form of its patterns, and the number of its links.
+    // number of stores, the kind and the flags of the row, its positions without a range, the
+    // number and the form of its patterns, and the number of its links.
     for (place, octet) in [
         (8, 3),
         (9, 4),
@@ -116,7 +116,7 @@ fn each_octet_that_is_looked_at_must_be_spelled(rt: HostRuntime) {
         if let Some(there) = text.get_mut(place) {
             *there = octet;
         }
-        assert!(rt; read_text(&text, 2).is_none());
+        assert!(rt; CheckpointText::read(&text, 2).is_none());
     }
 }
 

@@ -3,7 +3,6 @@
 ghost use Rattle.std.specs.Prelude.{◌≡◌, ◌<◌, ◌≤◌, ◌+◌, ◌*◌, ◌^◌, ◌++◌, IfSome, MatchOption, None, Some, length};
 ghost use Rattle.octet_fields.specs.Fields.{Writes, big_bytes};
 ghost use Rattle.store_directory.specs.Checkpoints.{checkpoint_in, counts_in, counts_octets};
-ghost use Rattle.store_directory.specs.Spelled.{checkpoint_of};
 
 use crate::pattern_text::{PatternText, patterns_from};
 use crate::store_text::{StoresText, stores_from};
@@ -60,30 +59,34 @@ pub(crate) struct CheckpointText<'a> {
     pub(crate) wear: CountText<'a>,
 }
 
-/// The checkpoint that a text spells on a device of so many blocks. None where it spells none.
-#[tactic(auto, unfolding(crate::specs::Checkpoints::checkpoint_in))]
-pub(crate) fn read_text<'a>(text: &'a [u8], blocks: usize) -> Option<CheckpointText<'a>>
-    ensures value { MatchOption result (checkpoint_in blocks text.now ≡ None)
-        (λ read. checkpoint_in blocks text.now ≡ Some (checkpoint_of read)) }
-    ensures now { IfSome result (λ read. read.now < 2 ^ 48) }
-    ensures counts { IfSome result (λ read. length read.wear ≡ blocks) }
-{
-    if text.len() < 8 {
-        return None;
+impl<'a> CheckpointText<'a> {
+    ghost use Rattle.store_directory.specs.Spelled.{checkpoint_of};
+
+    /// The checkpoint that a text spells on a device of so many blocks. None where it spells none.
+    #[tactic(auto, unfolding(crate::specs::Checkpoints::checkpoint_in))]
+    pub(crate) fn read(text: &'a [u8], blocks: usize) -> Option<CheckpointText<'a>>
+        ensures value { MatchOption result (checkpoint_in blocks text.now ≡ None)
+            (λ read. checkpoint_in blocks text.now ≡ Some (checkpoint_of read)) }
+        ensures now { IfSome result (λ read. read.now < 2 ^ 48) }
+        ensures counts { IfSome result (λ read. length read.wear ≡ blocks) }
+    {
+        if text.len() < 8 {
+            return None;
+        }
+        let now = u48_at(text, 0);
+        let reports = u16_at(text, 6);
+        let (forward, rest) = patterns_from(&text[8..])?;
+        let (count, rest) = rest.split_first()?;
+        let (stores, rest) = stores_from(rest, *count)?;
+        let wear = counts_of(rest, blocks)?;
+        Some(CheckpointText {
+            now,
+            reports,
+            forward,
+            stores,
+            wear,
+        })
     }
-    let now = u48_at(text, 0);
-    let reports = u16_at(text, 6);
-    let (forward, rest) = patterns_from(&text[8..])?;
-    let (count, rest) = rest.split_first()?;
-    let (stores, rest) = stores_from(rest, *count)?;
-    let wear = counts_of(rest, blocks)?;
-    Some(CheckpointText {
-        now,
-        reports,
-        forward,
-        stores,
-        wear,
-    })
 }
 
 // The counts that a text is. None where it has not as many octets.
@@ -100,8 +103,8 @@ fn counts_of<'a>(text: &'a [u8], blocks: usize) -> Option<CountText<'a>>
     })
 }
 
-/// Writes the last storage time, below 2^48, and the number of reports, and answers the place behind
-/// them. The rest of `out` stays.
+/// Writes the last storage time, below 2^48, and the number of reports, and answers the place
+/// behind them. The rest of `out` stays.
 pub(crate) fn put_head(now: u64, reports: u16, out: &mut [u8], at: usize) -> usize
     requires fits { now < 2 ^ 48 }
     requires room { at + 8 ≤ length out.old }

@@ -5,7 +5,7 @@ ghost use Rattle.store_directory.specs.Checkpoints.{checkpoint_octets, read_chec
 ghost use Rattle.store_directory.specs.Folds.{IsNoCheckpoint};
 ghost use Rattle.store_directory.specs.Slots.{HasOwnSizes};
 
-use crate::checkpoint_text::{put_counts, put_head, read_text};
+use crate::checkpoint_text::{CheckpointText, put_counts, put_head};
 use crate::directory::Directory;
 use crate::fault::{ApplyFault, FoldFault};
 use crate::pattern_text::put_patterns;
@@ -58,7 +58,7 @@ impl Directory {
         ensures own { IfOk result (λ d. HasOwnSizes (record { stores = d.stores; sizes = d.sizes })) }
         ensures stops { IfErr result (λ fault. IsNoCheckpoint fault (length wear.old) text.now) }
     {
-        let Some(mut checkpoint) = read_text(text, wear.len()) else {
+        let Some(mut checkpoint) = CheckpointText::read(text, wear.len()) else {
             return Err(FoldFault::Spelling { at: 0 });
         };
         match Directory::of_text(alloc, &mut checkpoint) {

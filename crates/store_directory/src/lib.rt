@@ -31,6 +31,8 @@ pub use laws::{
 pub use row::Row;
 
 #[cfg(test)]
+mod change_tests;
+#[cfg(test)]
 mod checkpoint_tests;
 #[cfg(test)]
-mod text_tests;
+mod row_tests;

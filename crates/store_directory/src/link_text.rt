@@ -1,5 +1,5 @@
-// Links, in memory or in a text: the block (2) and the number of its first record (4), one link behind
-// another.
+// Links, in memory or in a text: the block (2) and the number of its first record (4), one link
+// behind another.
 ghost use Rattle.std.specs.Prelude.{◌++◌, ◌^◌, MatchOption, None, ◌≡◌, ◌<◌, ◌≤◌, ◌+◌, ◌*◌, Some, length, slice_get};
 ghost use Rattle.octet_fields.specs.Fields.{Writes, big_bytes};
 ghost use Rattle.store_directory.specs.Checkpoints.{link_list_in};
@@ -135,7 +135,8 @@ pub(crate) fn links_from<'a>(text: &'a [u8]) -> Option<(LinkText<'a>, &'a [u8])>
     Some((LinkText::new(octets, count), &octets[long..]))
 }
 
-/// Writes the number of links and these, and answers the place behind them. The rest of `out` stays.
+/// Writes the number of links and these, and answers the place behind them. The rest of `out`
+/// stays.
 pub(crate) fn put_link_list(links: &[Link], out: &mut [u8], at: usize) -> usize
     requires few { length links.now < 2 ^ 16 }
     requires room { at + 2 + 6 * length links.now ≤ length out.old }

@@ -76,8 +76,8 @@ impl<'a> PatternText<'a> {
     }
 }
 
-/// The patterns whose number stands at the front, and what is behind them. None where one of them is
-/// not spelled.
+/// The patterns whose number stands at the front, and what is behind them. None where one of them
+/// is not spelled.
 pub(crate) fn patterns_from<'a>(text: &'a [u8]) -> Option<(PatternText<'a>, &'a [u8])>
     ensures { MatchOption result (pattern_list_in text.now ≡ None)
         (λ read. pattern_list_in text.now ≡ Some (read.0, read.1.now)) }

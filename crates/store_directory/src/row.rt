@@ -47,8 +47,8 @@ fn octets_fit(row: Row)
 }
 
 impl Row {
-    /// Whether a store may have the row: its numbers are in their ranges, and its positions among its
-    /// packets.
+    /// Whether a store may have the row: its numbers are in their ranges, and its positions among
+    /// its packets.
     pub fn is_lawful(&self) -> bool
         ensures lawful { result ≡ is_lawful_row self.now }
         ensures fits { FitsRow self.now }

@@ -1,6 +1,6 @@
-// Rows as 29 octets: identifier (2), kind (1), size (4), channel (1), flags (1), first (4), count (4),
-// behind (4), and the range's next (4) and end (4), which are 0 where there is no range. The flags are
-// storage 1, open retrieval 2, told 4 and range 8.
+// Rows as 29 octets: identifier (2), kind (1), size (4), channel (1), flags (1), first (4), count
+// (4), behind (4), and the range's next (4) and end (4), which are 0 where there is no range. The
+// flags are storage 1, open retrieval 2, told 4 and range 8.
 ghost use Rattle.std.specs.Prelude.{◌≡◌, ◌+◌, ◌≤◌, ◌++◌, ◌∷◌, [], IfSome, length};
 ghost use Rattle.octet_fields.specs.Fields.{Writes, big_bytes};
 ghost use Rattle.store_directory.specs.Rows.{FitsRow, flag_bit, flags_of, is_row_text, range_in, row_by, row_in, row_octets};
@@ -12,8 +12,8 @@ use octet_fields::{put_u8, put_u16, put_u32, u16_at, u32_at};
 /// The octets of a row.
 pub(crate) const ROW: usize = 29;
 
-/// The row that the 29 octets at the front spell. None where there are fewer, the kind is above 1, a
-/// flag above 8 is set, or positions stand there without a range.
+/// The row that the 29 octets at the front spell. None where there are fewer, the kind is above 1,
+/// a flag above 8 is set, or positions stand there without a range.
 #[tactic(auto, unfolding(crate::specs::Rows::row_in))]
 pub(crate) fn row_at(octets: &[u8]) -> Option<Row>
     ensures value { result ≡ row_in octets.now }

@@ -1,5 +1,5 @@
-// Stores in the text of a checkpoint: the row (29), the patterns behind their number (1), and the links
-// behind theirs (2).
+// Stores in the text of a checkpoint: the row (29), the patterns behind their number (1), and the
+// links behind theirs (2).
 ghost use Rattle.std.specs.Prelude.{◌≡◌, ◌<◌, ◌≤◌, ◌+◌, ◌^◌, ◌∷◌, [], IfSome, MatchOption, None, Some, is_some, length, true};
 ghost use Rattle.octet_fields.specs.Fields.{Writes};
 ghost use Rattle.store_directory.specs.Checkpoints.{listed_in, listed_octets, stores_in};

@@ -4,7 +4,7 @@ use Rattle.std.proofs.lemmas.List.Elements.{All-push}
 use Rattle.std.proofs.lemmas.Option.{get_or_from_slice_get}
 use Rattle.std.specs.List.{flat_map}
 use Rattle.std.specs.Prelude.{option_to_list}
-use Rattle.octet_fields.proofs.Rows.{flat_map-more}
+use Rattle.pus_report.proofs.Lists.{flat_map-more}
 use Rattle.pus_request.specs.View.{listed}
 use Rattle.pst_model.specs.declared.rows.SummaryRow.{SummaryRow}
 use Rattle.pst_model.specs.Contents.{summary_asked}

@@ -1,7 +1,7 @@
 use Rattle.std.proofs.Common.{◌∙◌}
 use Rattle.control_defs.specs.declared.instructions.Instruction.TheVariants.{Copy}
 use Rattle.octet_fields.proofs.Parts.{same_four}
-use Rattle.pus_request.proofs.Fields.{number_behind}
+use Rattle.octet_fields.proofs.Numbers.{number_behind}
 use Rattle.pus_request.proofs.spelled.copy_at.Goals as goal
 
 pub returns : goal.returns

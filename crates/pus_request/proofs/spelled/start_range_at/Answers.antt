@@ -1,7 +1,7 @@
 use Rattle.std.proofs.Common.{◌∙◌}
 use Rattle.control_defs.specs.declared.instructions.Instruction.TheVariants.{StartRange}
 use Rattle.octet_fields.proofs.Parts.{same_three}
-use Rattle.pus_request.proofs.Fields.{number_behind}
+use Rattle.octet_fields.proofs.Numbers.{number_behind}
 use Rattle.pus_request.proofs.spelled.start_range_at.Goals as goal
 
 pub returns : goal.returns

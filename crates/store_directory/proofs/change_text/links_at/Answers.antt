@@ -1,7 +1,7 @@
 use Rattle.std.proofs.Common.{drop, ap, ◌∙◌, arith}
 use Rattle.std.proofs.lemmas.List.{take_rest}
 use Rattle.store_directory.specs.Entries.{links_in}
-use Rattle.store_directory.proofs.Numbers.{HasOctets, HasOctets-drop}
+use Rattle.octet_fields.proofs.Numbers.{HasOctets, HasOctets-drop}
 use Rattle.store_directory.proofs.LinkTexts.{links_fits}
 use Rattle.store_directory.proofs.change_text.links_at.Goals as goal
 

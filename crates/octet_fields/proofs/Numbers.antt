@@ -1,5 +1,5 @@
--- Numbers in the octets of a text.
-use Rattle.std.proofs.Common.{◌≡◌, ℕ, ◌+◌, ◌-◌, ◌^◌, ◌<◌, ◌≤◌, List, drop, take, slice_index, ap, ◌∙◌, arith}
+-- Numbers in octets: how great they are, and where they stand in the end or the front of other octets.
+use Rattle.std.proofs.Common.{◌≡◌, ℕ, ◌+◌, ◌-◌, ◌^◌, ◌<◌, ◌≤◌, List, drop, take, slice_index, sym, ap, ◌∙◌, arith}
 use Rattle.std.proofs.lemmas.List.{drop-drop, drop-take, get_or-drop}
 use Rattle.byteorder.specs.Numbers.{big_from-lt, big_from-take}
 use Rattle.octet_fields.specs.Fields.{field}
@@ -16,11 +16,11 @@ pub field-lt : (n at : ℕ) (octets : List ℕ) → HasOctets octets → field n
 field-lt n at octets fit = big_from-lt 0 n (drop at octets) (HasOctets-drop at octets fit)
 
 -- a number behind so many octets
-pub field-drop : (n at place : ℕ) (octets : List ℕ) → field n place (drop at octets) ≡ field n (at + place) octets
-field-drop n at place octets = ap (field n 0) (drop-drop place at octets)
+pub number_behind : (n place at : ℕ) (octets : List ℕ) → field n (at + place) octets ≡ field n place (drop at octets)
+number_behind n place at octets = ap (field n 0) (sym (drop-drop place at octets))
 
 -- a number reads no octet behind its last
-pub field-take : (n at : ℕ) (long : ℕ) (octets : List ℕ) → at + n ≤ long → field n at (take long octets) ≡ field n at octets
+pub field-take : (n at long : ℕ) (octets : List ℕ) → at + n ≤ long → field n at (take long octets) ≡ field n at octets
 field-take n at long octets within =
     let rest : ℕ = long - at in
     let split : long ≡ at + rest = omega arith in
