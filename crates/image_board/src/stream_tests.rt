@@ -3,8 +3,8 @@ ghost use Rattle.std.specs.Prelude.{◌≤◌, false, IfOk};
 
 use crate::{FileBoard, Reader, StdSource};
 use board::{Board, Failed, Source};
-use std::fs::{File, OpenOptions};
-use std::io::{self, Cursor, Error, ErrorKind, Read, Write};
+use std::fs::{self, File, OpenOptions};
+use std::io::{self, BufWriter, Cursor, Error, ErrorKind, Read, Write};
 use std::test::Fail;
 
 /// What a call of a stream does: it moves so many octets, is interrupted, or fails.
@@ -126,5 +126,18 @@ fn a_link_without_room_is_a_fault(rt: HostRuntime) -> Result<(), Fail> {
     let full = OpenOptions::new().write(true).open(&rt, "/dev/full")?;
     let mut board = FileBoard::new(no_device(&rt)?, 16, full);
     assert_eq!(rt; board.send(b"one"), Err(Failed));
+    Ok(())
+}
+
+#[test]
+fn nothing_that_was_sent_waits_in_a_buffer(rt: HostRuntime) -> Result<(), Fail> {
+    let path = "image_board_sent";
+    let out = BufWriter::new(rt.alloc(), File::create(&rt, path)?)?;
+    let mut board = FileBoard::new(no_device(&rt)?, 16, out);
+    board.send(b"one, ")?;
+    assert_eq!(rt; fs::read(&rt, path)?.as_slice(), b"one, ".as_slice());
+    board.send(b"two")?;
+    assert_eq!(rt; fs::read(&rt, path)?.as_slice(), b"one, two".as_slice());
+    fs::remove_file(&rt, path)?;
     Ok(())
 }
