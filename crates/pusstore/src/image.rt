@@ -34,20 +34,10 @@ pub fn open_image(rt: &HostRuntime, path: &str, may_make: bool) -> io::Result<Im
     let Some(blocks) = blocks_of(file.metadata()?.len()) else {
         return Err(ErrorKind::InvalidData.into());
     };
-    settle(&file)?;
+    // A program that ended between a write and its barrier left pages that no session may rely on yet.
+    file.sync_all()?;
     folder.sync_all()?;
     Ok(Image { file, blocks })
-}
-
-// Syncs what an earlier program wrote and did not sync. Then the system is to forget what it keeps of the
-// file in memory: if a sync has failed before, the disk may hold other octets.
-fn settle(file: &File) -> io::Result<()> {
-    file.sync_all()?;
-    let refused = libc::posix_fadvise(file.as_raw_fd(), 0, 0, libc::POSIX_FADV_DONTNEED);
-    if refused != 0 {
-        return Err(io::Error::from_raw_os_error(refused));
-    }
-    Ok(())
 }
 
 // The folder that a path lies in.
