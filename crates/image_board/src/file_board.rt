@@ -9,24 +9,26 @@ ghost use Rattle.board.specs.Meaning.{TellsFlash, TellsLink};
 ghost use Rattle.board.specs.Moments.{GainsFront, SendsOnly};
 ghost use Rattle.board.specs.Reads.{FlashStays, ReadsOnly};
 ghost use Rattle.board.specs.Touches.{Touches, no_page};
+ghost use Rattle.image_board.specs.Medium.{Erase, Read, Sync, Write};
 ghost use Rattle.image_board.specs.Writing.{AppendsFront};
 
-use crate::image::{erase_blocks, offset_of};
+use crate::image::offset_of;
 use crate::link::send_all;
+use crate::medium::Medium;
 use crate::tally::{Tally, fail, judge, raise};
 use board::{Board, Failed};
 use std::fs::File;
 use std::io::Write;
-use std::os::unix::fs::FileExt;
 
-/// A device in a file of 65,536 octets for each block, whose link is a writer.
+/// A device in a file of 65,536 octets for each block, whose link is a writer. Tests put another medium
+/// in the file's place.
 ///
 /// A barrier syncs the file's data. If a sync has failed, the system may have dropped what was written
 /// before it, and may call the next sync a success. So from then on each program, erase and barrier
 /// returns `Failed`, with no call of the system.
 #[derive(Drop)]
-pub struct FileBoard<W: Write> {
-    file: File,
+pub struct FileBoard<W: Write, M: Medium = File> {
+    medium: M,
     blocks: u32,
     out: W,
     is_broken: bool,
@@ -35,17 +37,18 @@ pub struct FileBoard<W: Write> {
     ghost most: { blocks ≤ 512 },
 }
 
-impl<W: Write> FileBoard<W> {
+impl<W: Write, M: Medium> FileBoard<W, M> {
     ghost use Rattle.image_board.specs.FileBoard.{IsNewBoard, is_broken};
 
-    /// The device in a file of 16 to 512 blocks, each with its 65,536 octets, that sends by `out`.
-    pub fn new(file: File, blocks: u32, out: W) -> FileBoard<W>
+    /// The device in a file, or on another medium, of 16 to 512 blocks, each with its 65,536 octets, that
+    /// sends by `out`.
+    pub fn new(medium: M, blocks: u32, out: W) -> FileBoard<W, M>
         requires least { 16 ≤ blocks }
         requires most { blocks ≤ 512 }
-        ensures { IsNewBoard blocks out result }
+        ensures { IsNewBoard medium blocks out result }
     {
         FileBoard {
-            file,
+            medium,
             blocks,
             out,
             is_broken: false,
@@ -61,8 +64,8 @@ impl<W: Write> FileBoard<W> {
     }
 }
 
-impl<W: Write> Board for FileBoard<W> {
-    ghost use Rattle.image_board.specs.FileBoard.{counts_of, device_of, file_means, is_broken, link_of};
+impl<W: Write, M: Medium> Board for FileBoard<W, M> {
+    ghost use Rattle.image_board.specs.FileBoard.{Asks, AsksUnbroken, KeepsOthers, counts_of, device_of, file_means, is_broken, link_of, medium_of};
 
     ghost means = { file_means };
 
@@ -94,10 +97,11 @@ impl<W: Write> Board for FileBoard<W> {
 
         ensures made { (counts_of self.new).reads ≡ one_more (counts_of self.old).reads }
         ensures fault { OnErr result ((counts_of self.new).flash_faults ≡ one_more (counts_of self.old).flash_faults) }
-        ensures broken { is_broken self.new ≡ is_broken self.old }
+        ensures asked { Asks (Read ((block * 256 + page) * 256)) (is_ok result) self.old self.new }
+        ensures keeps { KeepsOthers self.old self.new }
     {
         raise(&mut self.tally.reads);
-        let outcome = self.file.read_exact_at(into, offset_of(block, page));
+        let outcome = self.medium.read_at_offset(offset_of(block, page), into);
         judge(outcome, &mut self.tally.flash_faults)
     }
 
@@ -123,14 +127,14 @@ impl<W: Write> Board for FileBoard<W> {
 
         ensures made { (counts_of self.new).programs ≡ one_more (counts_of self.old).programs }
         ensures fault { OnErr result ((counts_of self.new).flash_faults ≡ one_more (counts_of self.old).flash_faults) }
-        ensures refused { is_broken self.old ≡ true → is_err result ≡ true }
-        ensures broken { is_broken self.new ≡ is_broken self.old }
+        ensures asked { AsksUnbroken (Write ((block * 256 + page) * 256) from.now) (is_ok result) self.old self.new }
+        ensures keeps { KeepsOthers self.old self.new }
     {
         raise(&mut self.tally.programs);
         if self.is_broken {
             return fail(&mut self.tally.flash_faults);
         }
-        let outcome = self.file.write_all_at(from, offset_of(block, page));
+        let outcome = self.medium.write_at_offset(offset_of(block, page), from);
         judge(outcome, &mut self.tally.flash_faults)
     }
 
@@ -153,14 +157,14 @@ impl<W: Write> Board for FileBoard<W> {
 
         ensures made { (counts_of self.new).erases ≡ one_more (counts_of self.old).erases }
         ensures fault { OnErr result ((counts_of self.new).flash_faults ≡ one_more (counts_of self.old).flash_faults) }
-        ensures refused { is_broken self.old ≡ true → is_err result ≡ true }
-        ensures broken { is_broken self.new ≡ is_broken self.old }
+        ensures asked { AsksUnbroken (Erase (block * 65536)) (is_ok result) self.old self.new }
+        ensures keeps { KeepsOthers self.old self.new }
     {
         raise(&mut self.tally.erases);
         if self.is_broken {
             return fail(&mut self.tally.flash_faults);
         }
-        let outcome = erase_blocks(&self.file, block, 1);
+        let outcome = self.medium.erase_at_offset(offset_of(block, 0));
         judge(outcome, &mut self.tally.flash_faults)
     }
 
@@ -181,14 +185,15 @@ impl<W: Write> Board for FileBoard<W> {
 
         ensures made { (counts_of self.new).barriers ≡ one_more (counts_of self.old).barriers }
         ensures fault { OnErr result ((counts_of self.new).flash_faults ≡ one_more (counts_of self.old).flash_faults) }
-        ensures refused { is_broken self.old ≡ true → is_err result ≡ true }
+        ensures asked { AsksUnbroken Sync (is_ok result) self.old self.new }
         ensures broken { is_broken self.new ≡ is_err result }
+        ensures unsent { link_of self.new ≡ link_of self.old }
     {
         raise(&mut self.tally.barriers);
         if self.is_broken {
             return fail(&mut self.tally.flash_faults);
         }
-        let outcome = judge(self.file.sync_data(), &mut self.tally.flash_faults);
+        let outcome = judge(self.medium.sync(), &mut self.tally.flash_faults);
         self.is_broken = outcome.is_err();
         outcome
     }
@@ -213,6 +218,7 @@ impl<W: Write> Board for FileBoard<W> {
         ensures front { OnErr result
             (AppendsFront (W.contents (link_of self.old)) (W.contents (link_of self.new)) bytes.now) }
         ensures fault { OnErr result ((counts_of self.new).link_faults ≡ one_more (counts_of self.old).link_faults) }
+        ensures unasked { medium_of self.new ≡ medium_of self.old }
         ensures broken { is_broken self.new ≡ is_broken self.old }
     {
         raise(&mut self.tally.sends);

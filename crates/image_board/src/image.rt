@@ -28,14 +28,13 @@ pub fn offset_of(block: u32, page: u32) -> u64
     (u64::from(block) * 256 + u64::from(page)) * 256
 }
 
-/// Writes 255 to each octet of a run of at most 512 blocks, whose first is below 512.
-pub fn erase_blocks(file: &File, first: u32, blocks: u32) -> io::Result<()>
-    requires first { first < 512 }
+/// Writes 255 to each octet of at most 512 blocks, the first of which begins at this offset.
+pub fn erase_blocks(file: &File, offset: u64, blocks: u32) -> io::Result<()>
+    requires offset { offset < 33554432 }
     requires blocks { blocks ≤ 512 }
 {
     for piece in 0..blocks * PIECES {
-        let offset = u64::from(first) * BLOCK + u64::from(piece) * PIECE as u64;
-        file.write_all_at(&ERASED, offset)?;
+        file.write_all_at(&ERASED, offset + u64::from(piece) * PIECE as u64)?;
     }
     Ok(())
 }

@@ -4,6 +4,9 @@
 mod file_board;
 mod image;
 mod link;
+mod medium;
+#[cfg(test)]
+mod medium_tests;
 mod reader;
 mod source;
 #[cfg(test)]
@@ -14,5 +17,6 @@ mod tests;
 
 pub use file_board::FileBoard;
 pub use image::{blocks_of, make_blank};
+pub use medium::Medium;
 pub use reader::Reader;
 pub use source::StdSource;
