@@ -1,5 +1,5 @@
 -- What a writer gained of octets, a part at a time.
-use Rattle.std.proofs.Common.{◌≡◌, ℕ, List, [], ◌++◌, None, Some, refl, sym, ap, ◌∙◌, subst, append_assoc, append-nil, take, drop, length, take-append-drop}
+use Rattle.std.proofs.Common.{◌≡◌, ℕ, List, ◌++◌, None, Some, ap, ◌∙◌, append_assoc, take, drop, length, take-append-drop}
 use Rattle.std.proofs.lemmas.List.{take_rest}
 use Rattle.std.specs.Prelude.{◌-◌, Option}
 use Rattle.std.specs.Io.KnownBytes.{Appends}

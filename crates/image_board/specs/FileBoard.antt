@@ -1,9 +1,8 @@
 -- What a board over a file means. It tells neither its flash nor its link: no clause can observe a file.
-use Rattle.std.specs.Prelude.{◌≡◌, ℕ, Bool, true, false, List, []}
+use Rattle.std.specs.Prelude.{◌≡◌, ℕ, Bool, true, false, []}
 use Rattle.std.specs.declared.io.traits.Write as write
 use Rattle.board.specs.Counts.{Counts}
 use Rattle.board.specs.Device.{Device}
-use Rattle.board.specs.Flash.{Flash}
 use Rattle.board.specs.Meaning.{BoardMeaning}
 use Rattle.image_board.specs.Counting.{counts_in, no_counts}
 use Rattle.image_board.specs.Medium.{Call, Logs}

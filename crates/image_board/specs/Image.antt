@@ -1,5 +1,5 @@
 -- The file of a device.
-use Rattle.std.specs.Prelude.{ℕ, ◌*◌, ◌/◌, ◌%◌, ◌==◌, ◌&&◌, nat_le, Option, Some, None, if◌then◌else◌}
+use Rattle.std.specs.Prelude.{ℕ, ◌/◌, ◌%◌, ◌==◌, ◌&&◌, nat_le, Option, Some, None, if◌then◌else◌}
 
 -- the number of blocks of a file with so many octets: 65,536 for each, and 16 to 512 of them
 abbrev pub blocks_at : ℕ → Option ℕ
