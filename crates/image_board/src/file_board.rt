@@ -20,7 +20,7 @@ use board::{Board, Failed};
 use std::fs::File;
 use std::io::Write;
 
-/// A device in a file of 65,536 octets for each block, whose link is a writer. Tests put another medium
+/// A device in a file of 65,536 octets for each block, whose link is a writer. Another `Medium` may stand
 /// in the file's place.
 ///
 /// A barrier syncs the file's data. If a sync has failed, the system may have dropped what was written

@@ -5,8 +5,8 @@ ghost use Rattle.image_board.specs.Writing.{AppendsFront};
 
 use std::io::{self, ErrorKind, Write};
 
-// Writes some of the octets and answers how many: none if a signal came before any. A writer that takes
-// none of its own is at its end.
+// Writes some of the octets and returns how many: none if a signal came before any. It is an error if the
+// writer takes none without a signal.
 fn write_some<W: Write>(out: &mut W, bytes: &[u8]) -> io::Result<usize>
     requires { 0 < length bytes.now }
     ensures count { IfOk result (λ count. count ≤ length bytes.now) }

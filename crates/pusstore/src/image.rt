@@ -5,6 +5,7 @@ use image_board::{blocks_of, make_blank};
 use std::fs::{self, File, OpenOptions};
 use std::io::{self, ErrorKind};
 use std::os::fd::AsRawFd;
+use std::os::unix::fs::MetadataExt;
 use std::path::Path;
 
 /// The blocks of a file that is made.
@@ -23,8 +24,9 @@ pub struct Image {
     ghost most: { blocks ≤ 512 },
 }
 
-/// Opens the file at a path, or makes it with 64 erased blocks where it is absent and may be made. It is
+/// Opens the file at a path, or makes it with 64 erased blocks if it is absent and may be made. It is
 /// locked, its length is that of a device, and all that it holds is durable, its name in its folder too.
+/// Each error means that the file cannot be used, but `OutOfMemory` that memory is missing.
 pub fn open_image(rt: &HostRuntime, path: &str, may_make: bool) -> io::Result<Image> {
     let folder = folder_of(rt, path)?;
     let file = match open_locked(rt, path, false) {
@@ -48,7 +50,7 @@ fn folder_of(rt: &HostRuntime, path: &str) -> io::Result<File> {
     }
 }
 
-// Opens a file, or makes an empty one if it is absent and this is wanted. Where another program has it
+// Opens a file, or makes an empty one if it is absent and this is wanted. If another program has it
 // locked this fails.
 fn open_locked(rt: &HostRuntime, path: &str, create: bool) -> io::Result<File> {
     let file = OpenOptions::new()
@@ -63,6 +65,16 @@ fn open_locked(rt: &HostRuntime, path: &str, create: bool) -> io::Result<File> {
         file
     };
     file.try_lock()?;
+    // By now the name may be that of another file. A file that is made is not made through a link.
+    let named = if create {
+        fs::symlink_metadata(rt, path)?
+    } else {
+        fs::metadata(rt, path)?
+    };
+    let held = file.metadata()?;
+    if held.dev() != named.dev() || held.ino() != named.ino() {
+        return Err(ErrorKind::AlreadyExists.into());
+    }
     Ok(file)
 }
 
