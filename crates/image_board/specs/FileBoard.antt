@@ -38,7 +38,7 @@ module _ {W M : Type 0} {writes : write.Ghosts W} {calls : medium.Ghosts M} wher
   abbrev pub medium_of : FileBoard W M writes calls → M
   medium_of board = board.medium
 
-  -- A board of so many blocks that was just made over this medium and this writer.
+  -- A board of this many blocks that was just made over this medium and this writer.
   pub record IsNewBoard (medium : M) (blocks : ℕ) (out : W) (board : FileBoard W M writes calls) : Type 0 where
     pub device : (device_of board).blocks ≡ blocks
     pub over : medium_of board ≡ medium

@@ -49,7 +49,7 @@ pub fn make_blank(file: &File, blocks: u32) -> io::Result<()>
     file.sync_all()
 }
 
-/// The number of blocks of a device whose file has so many octets: a whole number of blocks, 16 to 512.
+/// The number of blocks of a device whose file has this many octets: a whole number of blocks, 16 to 512.
 pub fn blocks_of(octets: u64) -> Option<u32>
     ensures { result ≡ blocks_at octets }
 {

@@ -7,7 +7,7 @@ use std::fs::{self, File, OpenOptions};
 use std::io::{self, BufWriter, Cursor, Error, ErrorKind, Read, Write};
 use std::test::Fail;
 
-/// What a call of a stream does: it moves so many octets, is interrupted, or fails.
+/// What a call of a stream does: it moves this many octets, is interrupted, or fails.
 #[derive(Clone, Copy)]
 enum Act {
     Move(usize),
@@ -38,7 +38,7 @@ impl Halting {
         Halting { made: 0, next: 0 }
     }
 
-    // How many octets the next call moves, of so many at most.
+    // How many octets the next call moves, at most this many.
     fn act(&mut self, most: usize) -> io::Result<usize>
         ensures { IfOk result (λ count. count ≤ most) }
     {
