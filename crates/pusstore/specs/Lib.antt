@@ -1,2 +1,3 @@
+pub mod Making
 pub mod Printing
 pub mod Reports

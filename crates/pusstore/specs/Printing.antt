@@ -1,15 +1,11 @@
 -- What a session prints of its text.
-use Rattle.std.specs.Prelude.{◌≡◌, ◌++◌, ℕ, List, [], Option, Some, None, ⊤, unwrap_or}
+use Rattle.std.specs.Prelude.{◌≡◌, ◌++◌, ℕ, List, [], Option, Some, None, ⊤}
 use Rattle.std.specs.Io.KnownBytes.{Appends}
 use Rattle.board.specs.Moments.{IsPrefixOf}
 use Rattle.pst_model.specs.Text.{bad_read, commands_of, first_bad}
 use Rattle.station.specs.declared.ending.Ending.{Ending}
 use Rattle.station.specs.declared.ending.Ending.TheVariants.{Done, BadWords, BadLine, LinkFault, SourceFault, NoMemory}
-use Rattle.station.specs.Session.{lines_for, read_of, taken_of, text_limit}
-
--- the octets that a reader has left, where they are known
-abbrev pub octets_left : Option (List ℕ) → List ℕ
-octets_left known = unwrap_or known []
+use Rattle.station.specs.Session.{EndsReading, lines_for, read_of, taken_of, text_limit}
 
 -- The writer gained a front of the lines for the commands read, where these octets of the text are left.
 pub record PrintsFront (text : List ℕ) (before after : Option (List ℕ)) : Type 0 where
@@ -38,3 +34,10 @@ EndsPrinting text before after SourceFault = PrintsRead text before after
 EndsPrinting text before after NoMemory = PrintsFront text before after
 EndsPrinting text before after LinkFault = ⊤
 EndsPrinting text before after BadWords = Appends before after []
+
+-- What a session says of the text that it was to read, whatever is known of its output: what was taken of it, and what
+-- its ending says of that.
+pub record EndsTaking (text : List ℕ) (ending : Ending) : Type 0 where
+  pub left : List ℕ
+  pub taken : text ≡ taken_of text left ++ left
+  pub reading : EndsReading text left ending

@@ -1,31 +1,30 @@
 // pusstore DEVICE PLACE [WORD]...: a session of the packet store over a text on standard input.
 #![tactic(auto)]
 
+mod image;
 mod outcome;
-mod reader;
 mod report;
 mod session;
-mod source;
+mod words;
 
+use image::open_image;
+use image_board::FileBoard;
 use report::Report;
-use session::session;
+use session::{file_session, session};
 use station::{Device, Ending, device_of};
-use std::env;
 use std::io::ErrorKind;
 use std::process::ExitCode;
+use words::{may_make, words_of};
 
-// The words behind the program's name.
-fn words_of(rt: &HostRuntime) -> Result<Vec<String>, Report> {
-    let args = match env::args(rt) {
-        Ok(args) => args,
-        Err(error) if error.kind() == ErrorKind::OutOfMemory => {
-            return Err(Report::Session(Ending::NoMemory));
+// A session on a device in the file at this path, which is made if it is absent and the words ask for it.
+fn run_in_file(rt: &HostRuntime, path: String, words: &Vec<String>) -> Report {
+    match open_image(rt, path.as_str(), may_make(words)) {
+        Ok(image) => {
+            let mut board = FileBoard::new(image.file, image.blocks, rt.stdout());
+            Report::Session(file_session(rt.alloc(), words, rt.stdin(), &mut board))
         }
-        Err(_) => return Err(Report::Device),
-    };
-    match args.skip(1).collect::<Vec<String>>(rt.alloc()) {
-        Ok(words) => Ok(words),
-        Err(_) => Err(Report::Session(Ending::NoMemory)),
+        Err(error) if error.kind() == ErrorKind::OutOfMemory => Report::Session(Ending::NoMemory),
+        Err(_) => Report::File(path),
     }
 }
 
@@ -34,18 +33,25 @@ fn run(rt: &HostRuntime) -> Report {
         Ok(words) => words,
         Err(report) => return report,
     };
-    let Some(Device::Memory(blocks)) = device_of(&words) else {
+    let Some(device) = device_of(&words) else {
         return Report::Device;
     };
-    match words.into_iter().skip(2).collect::<Vec<String>>(rt.alloc()) {
-        Ok(words) => Report::Session(session(
+    let mut words = words.into_iter().skip(1);
+    let Some(place) = words.next() else {
+        return Report::Device;
+    };
+    let Ok(words) = words.collect::<Vec<String>>(rt.alloc()) else {
+        return Report::Session(Ending::NoMemory);
+    };
+    match device {
+        Device::Memory(blocks) => Report::Session(session(
             rt.alloc(),
             &words,
             blocks,
             rt.stdin(),
             &mut rt.stdout(),
         )),
-        Err(_) => Report::Session(Ending::NoMemory),
+        Device::File => run_in_file(rt, place, &words),
     }
 }
 

@@ -11,6 +11,9 @@ use std::process::ExitCode;
 pub enum Report {
     /// The first two words name no device.
     Device,
+    /// The file at this path can be no device: it cannot be opened, made, locked or synced, or its length
+    /// is none of a device.
+    File(String),
     /// The session ended so.
     Session(Ending),
 }
@@ -32,6 +35,7 @@ impl Report {
     {
         match self {
             Report::Device => ExitCode::from(1),
+            Report::File(_) => ExitCode::from(9),
             Report::Session(ending) => ExitCode::from(ending.status()),
         }
     }
@@ -41,6 +45,7 @@ impl fmt::Display for Report {
     fn fmt<W: fmt::Write>(&self, f: &mut fmt::Formatter<W>) -> fmt::Result {
         match self {
             Report::Device => f.write_str("pusstore: device: use mem N or file PATH"),
+            Report::File(path) => write!(f, "pusstore: cannot use {path}"),
             Report::Session(Ending::Done) => Ok(()),
             Report::Session(Ending::BadWords) => f.write_str(
                 "pusstore: words: use run, fresh, format, list or generate NUMBER COUNT",

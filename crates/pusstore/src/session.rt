@@ -1,12 +1,15 @@
-// A session from what is read to what is written: all of the program but its words and its streams.
-ghost use Rattle.std.specs.Prelude.{◌≡◌, ◌≢◌, ◌≤◌, IsTrue};
+// Sessions from what is read to what is written: all of the program but its words, its streams and its
+// file.
+ghost use Rattle.std.specs.Prelude.{◌≡◌, ◌≢◌, ◌≤◌, ◌↔◌, IsTrue};
+ghost use Rattle.board.specs.Counts.{Rose};
+ghost use Rattle.image_board.specs.FileBoard.{counts_of};
+ghost use Rattle.image_board.specs.Reading.{octets_left};
 ghost use Rattle.station.specs.Words.{AreFresh, texts_of};
-ghost use Rattle.pusstore.specs.Printing.{EndsPrinting, octets_left};
+ghost use Rattle.pusstore.specs.Printing.{EndsPrinting, EndsTaking};
 
 use crate::outcome::{outcome, print_sent};
-use crate::reader::Reader;
-use crate::source::StdSource;
 use board::MemBoard;
+use image_board::{FileBoard, Reader, StdSource};
 use station::{Ending, station};
 use std::alloc::Global;
 use std::io::Write;
@@ -33,4 +36,24 @@ pub fn session<R: Reader + Drop, W: Write>(
     let ending = station(alloc, words, &mut source, &mut board);
     let printed = print_sent(output, &board);
     outcome(ending, board.starved(), printed)
+}
+
+/// A session with these words over the text that is read, on a device in a file. A line leaves the
+/// process before the next command is read.
+pub fn file_session<R: Reader + Drop, W: Write>(
+    alloc: Global,
+    words: &Vec<String>,
+    input: R,
+    board: &mut FileBoard<W>,
+) -> Ending
+    ensures words { (result ≡ Ending.BadWords) ↔ ¬ (AreFresh (texts_of words.now)) }
+    ensures unchanged { result ≡ Ending.BadWords → board.new ≡ board.old }
+    ensures reading { IsTrue R.tells → EndsTaking (octets_left (R.remaining input)) result }
+    ensures link_cause { result ≡ Ending.LinkFault
+        → Rose (counts_of board.old).link_faults (counts_of board.new).link_faults }
+    ensures no_fault { result ≢ Ending.LinkFault
+        → (counts_of board.new).link_faults ≡ (counts_of board.old).link_faults }
+{
+    let mut source = StdSource::new(input);
+    station(alloc, words, &mut source, board)
 }

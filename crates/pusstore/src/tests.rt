@@ -1,82 +1,27 @@
-// What no clause says: which errors of a reader are taken up again, and that all that was sent is
-// printed where the writer takes it.
-ghost use Rattle.std.specs.Prelude.{false};
+// What no clause says: that all that was sent is printed where the writer takes it, and which files are
+// devices.
 
+use crate::image::open_image;
 use crate::outcome::print_sent;
-use crate::reader::Reader;
-use crate::session::session;
-use crate::source::StdSource;
-use board::{Board, Failed, MemBoard, Source};
+use crate::report::Report;
+use crate::session::{file_session, session};
+use board::{Board, MemBoard};
+use image_board::FileBoard;
 use station::Ending;
-use std::io::{Cursor, Error, ErrorKind, Read};
+use std::alloc::{AllocError, Global};
+use std::fs::{self, File};
+use std::io::Cursor;
 use std::test::Fail;
 
-/// What a read does: it gives so many octets, is interrupted, or fails.
-#[derive(Clone, Copy)]
-enum Act {
-    Give(usize),
-    Interrupt,
-    Fail,
-}
+const TEXT: &[u8] = b"A 000000000010 0864c000000d20031900000000000000000010aa\nG 000000000011\n";
 
-const ACTS: [Act; 7] = [
-    Act::Give(1),
-    Act::Interrupt,
-    Act::Interrupt,
-    Act::Give(3),
-    Act::Fail,
-    Act::Give(2),
-    Act::Give(0),
-];
+const SENT: &[u8] = b"1 0864c000000d20031900000000000000000010aa\n";
 
-/// A reader of the octets 0, 1, 2 and on, whose reads do these in turn, and then give nothing.
-#[derive(Drop)]
-struct Halting {
-    made: usize,
-    next: u8,
-}
-
-impl Reader for Halting {
-    ghost tells = { false };
-
-    ghost known = { λ reader told. told };
-}
-
-impl Read for Halting {
-    fn read(&mut self, buf: &mut [u8]) -> std::io::Result<usize> {
-        if self.made >= ACTS.len() {
-            return Ok(0);
-        }
-        let act = ACTS[self.made];
-        self.made += 1;
-        match act {
-            Act::Give(count) => {
-                let count = count.min(buf.len());
-                for octet in &mut buf[..count] {
-                    *octet = self.next;
-                    self.next = self.next.wrapping_add(1);
-                }
-                Ok(count)
-            }
-            Act::Interrupt => Err(Error::from(ErrorKind::Interrupted)),
-            Act::Fail => Err(Error::from(ErrorKind::Other)),
-        }
-    }
-}
-
-#[test]
-fn interrupted_reads_are_taken_up_again_and_others_are_faults(rt: HostRuntime) -> Result<(), Fail> {
-    let mut source = StdSource::new(Halting { made: 0, next: 0 });
-    let mut octets = [255; 4];
-    assert_eq!(rt; source.take(&mut octets), Ok(1));
-    assert_eq!(rt; octets[0], 0);
-    assert_eq!(rt; source.take(&mut octets), Ok(3));
-    assert!(rt; octets.starts_with(&[1, 2, 3]));
-    assert_eq!(rt; source.take(&mut octets), Err(Failed));
-    assert_eq!(rt; source.take(&mut octets), Ok(2));
-    assert!(rt; octets.starts_with(&[4, 5]));
-    assert_eq!(rt; source.take(&mut octets), Ok(0));
-    Ok(())
+// The words of a session that formats.
+fn fresh(alloc: Global) -> Result<Vec<String>, AllocError> {
+    let mut words = Vec::new(alloc);
+    words.push(String::from_str(alloc, "fresh")?)?;
+    Ok(words)
 }
 
 #[test]
@@ -94,13 +39,46 @@ fn all_that_was_sent_is_printed_where_there_is_room(rt: HostRuntime) -> Result<(
 
 #[test]
 fn a_session_prints_what_its_text_asks_for(rt: HostRuntime) -> Result<(), Fail> {
-    let text = b"A 000000000010 0864c000000d20031900000000000000000010aa\nG 000000000011\n";
-    let mut words = Vec::new(rt.alloc());
-    words.push(String::from_str(rt.alloc(), "fresh")?)?;
+    let words = fresh(rt.alloc())?;
     let mut output = Vec::new(rt.alloc());
-    let ending = session(rt.alloc(), &words, 16, text.as_slice(), &mut output);
+    let ending = session(rt.alloc(), &words, 16, TEXT, &mut output);
     assert_eq!(rt; ending, Ending::Done);
-    let wanted = b"1 0864c000000d20031900000000000000000010aa\n";
-    assert_eq!(rt; output.as_slice(), wanted.as_slice());
+    assert_eq!(rt; output.as_slice(), SENT);
+    Ok(())
+}
+
+#[test]
+fn a_session_in_a_file_writes_what_its_text_asks_for(rt: HostRuntime) -> Result<(), Fail> {
+    let path = "pusstore_test_output";
+    let words = fresh(rt.alloc())?;
+    let output = File::create(&rt, path)?;
+    let mut board = FileBoard::new(File::open(&rt, "/dev/null")?, 16, output);
+    let ending = file_session(rt.alloc(), &words, TEXT, &mut board);
+    assert_eq!(rt; ending, Ending::Done);
+    assert_eq!(rt; fs::read(&rt, path)?.as_slice(), SENT);
+    fs::remove_file(&rt, path)?;
+    Ok(())
+}
+
+#[test]
+fn a_file_is_made_where_it_may_be_and_used_by_one_at_a_time(rt: HostRuntime) -> Result<(), Fail> {
+    let path = "pusstore_test_image";
+    assert!(rt; open_image(&rt, path, false).is_err());
+    assert!(rt; !fs::exists(&rt, path)?);
+    let image = open_image(&rt, path, true)?;
+    assert_eq!(rt; image.blocks, 64);
+    assert!(rt; open_image(&rt, path, true).is_err());
+    drop(image);
+    assert_eq!(rt; open_image(&rt, path, false)?.blocks, 64);
+    fs::remove_file(&rt, path)?;
+    Ok(())
+}
+
+#[test]
+fn what_is_said_of_a_file_names_it(rt: HostRuntime) -> Result<(), Fail> {
+    let report = Report::File(String::from_str(rt.alloc(), "a path")?);
+    let said = format!(in rt.alloc(); "{report}")?;
+    assert_eq!(rt; said.as_str(), "pusstore: cannot use a path");
+    assert!(rt; !report.is_done());
     Ok(())
 }

@@ -7,7 +7,7 @@ use Rattle.std.specs.declared.string.String.{String}
 use Rattle.std.specs.declared.alloc.Global.{Global}
 use Rattle.std.specs.declared.vec.Vec.{Vec}
 use Rattle.station.specs.declared.words.Device.{Device}
-use Rattle.station.specs.declared.words.Device.TheVariants.{Memory}
+use Rattle.station.specs.declared.words.Device.TheVariants.{File, Memory}
 
 abbrev pub is_digit : ℕ → Bool
 is_digit octet = nat_le 48 octet && nat_le octet 57
@@ -32,7 +32,9 @@ memory_of None = None
 abbrev pub device_named : List (List ℕ) → Option Device
 device_named [] = None
 device_named (place ∷ []) = None
-device_named (kind ∷ place ∷ words) = if bytes_eq kind (codes "mem") then memory_of (blocks_of place) else None
+device_named (kind ∷ place ∷ words) =
+    if bytes_eq kind (codes "mem") then memory_of (blocks_of place)
+    else if bytes_eq kind (codes "file") then Some File else None
 
 abbrev pub texts_of : Vec (String Global) Global → List (List ℕ)
 texts_of words = map string_bytes words.items

@@ -184,6 +184,13 @@ fn devices_are_named_by_two_words(rt: HostRuntime) -> Result<(), Fail> {
         (&["mem"], None),
         (&["memory", "16"], None),
         (&["16", "mem"], None),
+        (&["file", "image"], Some(Device::File)),
+        (&["file", ""], Some(Device::File)),
+        (&["file", "mem", "fresh"], Some(Device::File)),
+        (&["file"], None),
+        (&["File", "image"], None),
+        (&["files", "image"], None),
+        (&["image", "file"], None),
         (&[], None),
     ];
     for (row, device) in rows {

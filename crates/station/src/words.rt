@@ -19,6 +19,8 @@ const SIGN: u8 = b'+';
 pub enum Device {
     /// In memory, with so many blocks, 16 to 512.
     Memory(u32),
+    /// In the file whose path is the second word.
+    File,
 }
 
 // The number of a word of 1 to 20 decimal digits, where it is at most that of a device.
@@ -39,14 +41,21 @@ fn blocks_in(word: &str) -> Option<u32>
 }
 
 /// The device that the first two words name: `mem` and 1 to 20 decimal digits, whose number is from 16
-/// to 512.
+/// to 512, or `file` and any word.
 pub fn device_of(words: &Vec<String>) -> Option<Device>
     ensures { result ≡ device_named (texts_of words.now) }
 {
-    if words.len() < 2 || words[0].as_str() != "mem" {
+    if words.len() < 2 {
         return None;
     }
-    Some(Device::Memory(blocks_in(words[1].as_str())?))
+    let kind = words[0].as_str();
+    if kind == "mem" {
+        return Some(Device::Memory(blocks_in(words[1].as_str())?));
+    }
+    if kind == "file" {
+        return Some(Device::File);
+    }
+    None
 }
 
 /// Whether the words of a session are `fresh` alone.

@@ -1,5 +1,6 @@
 use Rattle.std.proofs.Common.{List, ℕ, ap, refl, subst}
-use Rattle.pusstore.specs.Printing.{EndsPrinting, octets_left}
+use Rattle.image_board.specs.Reading.{octets_left}
+use Rattle.pusstore.specs.Printing.{EndsPrinting}
 use Rattle.pusstore.proofs.Printed.{prints}
 use Rattle.pusstore.proofs.session.session.Goals as goal
 

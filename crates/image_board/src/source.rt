@@ -2,7 +2,7 @@
 ghost use Rattle.std.specs.Prelude.{◌≡◌, ◌≤◌, ◌<◌, ◌+◌, ◌++◌, ◌↔◌, [], length, take, IfOk, IfSome, IfNone, IsTrue, OnErr, OnOk};
 ghost use Rattle.std.specs.Io.KnownBytes.{Consumes, IsAtEnd, Keeps};
 ghost use Rattle.board.specs.Counts.{Rose};
-ghost use Rattle.pusstore.specs.Printing.{octets_left};
+ghost use Rattle.image_board.specs.Reading.{octets_left};
 
 use crate::reader::Reader;
 use board::{Failed, Source};
