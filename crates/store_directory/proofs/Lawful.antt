@@ -11,7 +11,7 @@ use Rattle.control_defs.specs.Lists.{is_pattern_list}
 use Rattle.control_defs.proofs.Tested.{tested-from}
 use Rattle.record_view.specs.declared.link.Link.{Link}
 use Rattle.store_directory.specs.Changes.{Put, apply, change_store, listed_by, put_row, with_links}
-use Rattle.store_directory.specs.Checkpoints.{apply_links, apply_stores, is_lawful, is_lawful_listed}
+use Rattle.store_directory.specs.Checkpoints.{apply_links, apply_stores, bare, is_lawful, is_lawful_listed}
 use Rattle.store_directory.specs.Directory.{AreListed, Directory, IsDirectory, IsListed, Listed, are_distinct, find_store, identifiers, is_new, put_store, reserved_by, with_stores}
 use Rattle.store_directory.specs.Options.{◌>>=◌, given}
 use Rattle.store_directory.specs.Rows.{is_lawful_row}
@@ -22,16 +22,12 @@ use Rattle.store_directory.proofs.Places.{IsAbsent, find-absent, find-last, put-
 use Rattle.store_directory.proofs.Puts.{put-is, swapped, trimmed-none}
 use Rattle.store_directory.proofs.Reserved.{reserved-append, reserved-pushed}
 
--- a store without its patterns, as it is put while a checkpoint is read
-abbrev bare : Listed → Listed
-bare s = listed_as s.row [] s.links
-
 new_beside : (number : ℕ) (front : List Listed) (s : Listed) (back : List Listed) → is_new number (identifiers (front ++ s ∷ back)) ≡ true → (number == s.identifier) ≡ false
 new_beside number [] s back new = not-true (number == s.identifier) (and_parts (not (number == s.identifier)) (is_new number (identifiers back)) new).0
 new_beside number (x ∷ front) s back new =
     new_beside number front s back (and_parts (not (number == x.identifier)) (is_new number (identifiers (front ++ s ∷ back))) new).1
 
-others_in_front : (front : List Listed) (s : Listed) (back : List Listed) → are_distinct (identifiers (front ++ s ∷ back)) ≡ true → IsAbsent (nat_eq s.identifier) (identifiers (map bare front))
+pub others_in_front : (front : List Listed) (s : Listed) (back : List Listed) → are_distinct (identifiers (front ++ s ∷ back)) ≡ true → IsAbsent (nat_eq s.identifier) (identifiers (map bare front))
 others_in_front [] s back distinct = tt
 others_in_front (x ∷ front) s back distinct =
     let both = and_parts (is_new x.identifier (identifiers (front ++ s ∷ back))) (are_distinct (identifiers (front ++ s ∷ back))) distinct in
@@ -39,16 +35,16 @@ others_in_front (x ∷ front) s back distinct =
 
 -- what stores reserve
 
-reserved-bare : (stores : List Listed) → reserved_by (map bare stores) ≡ reserved_by stores
+pub reserved-bare : (stores : List Listed) → reserved_by (map bare stores) ≡ reserved_by stores
 reserved-bare [] = refl
 reserved-bare (s ∷ stores) = ap (λ (n : ℕ). blocks_for_size s.size + n) (reserved-bare stores)
 
-length-bare : (stores : List Listed) → length (map bare stores) ≡ length stores
+pub length-bare : (stores : List Listed) → length (map bare stores) ≡ length stores
 length-bare [] = refl
 length-bare (s ∷ stores) = omega (arith, length-bare stores)
 
 -- a row is put behind the others
-put-last : (d : Directory) (stores : List Listed) (row : Row) → is_lawful_row row ≡ true → IsAbsent (nat_eq row.identifier) (identifiers stores)
+pub put-last : (d : Directory) (stores : List Listed) (row : Row) → is_lawful_row row ≡ true → IsAbsent (nat_eq row.identifier) (identifiers stores)
     → length stores + 1 ≤ 32 → reserved_by stores + blocks_for_size row.size ≤ 504
     → apply (with_stores d stores) (Put row) ≡ Some (with_stores d (stores ++ listed_as row [] [] ∷ []))
 unfolding apply
@@ -66,7 +62,7 @@ put-last d stores row lawful absent few reserved =
     }))
 
 -- and its links with it
-put_links : (d : Directory) (stores : List Listed) (row : Row) (links : List Link) → IsAbsent (nat_eq row.identifier) (identifiers stores) → length links ≤ blocks_for_size row.size
+pub put_links : (d : Directory) (stores : List Listed) (row : Row) (links : List Link) → IsAbsent (nat_eq row.identifier) (identifiers stores) → length links ≤ blocks_for_size row.size
     → apply_links (with_stores d (stores ++ listed_as row [] [] ∷ [])) row.identifier links ≡ Some (with_stores d (stores ++ listed_as row [] links ∷ []))
 unfolding apply
 put_links d stores row [] absent few = refl

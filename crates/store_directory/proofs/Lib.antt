@@ -28,3 +28,4 @@ pub mod WrittenCheckpoints
 pub mod WrittenStores
 pub mod CheckpointParts
 pub mod Unlawful
+pub mod InTurn

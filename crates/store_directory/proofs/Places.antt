@@ -61,6 +61,10 @@ first-position p xs i is = subst (Stands p xs) is (stands p xs)
 pub absent-position : (p : ℕ → Bool) (xs : List ℕ) → position p xs ≡ None → IsAbsent p xs
 absent-position p xs is = subst (Stands p xs) is (stands p xs)
 
+pub position-absent : (p : ℕ → Bool) (xs : List ℕ) → IsAbsent p xs → position p xs ≡ None
+position-absent p [] absent = refl
+position-absent p (x ∷ xs) absent = position-later p x xs absent.0 ∙ ap (option_map suc) (position-absent p xs absent.1)
+
 -- The store of an identifier, by its place.
 
 pub find-first : (identifier : ℕ) (stores : List Listed) (i : ℕ) → IsFirst (nat_eq identifier) (identifiers stores) i → find_store identifier stores ≡ slice_get stores i

@@ -198,7 +198,7 @@ greater-none (suc size) = cond-true (nat_lt 0 (suc size)) (suc size) 0 (lt-ltb 0
 -- a new store was put
 pub puts-new : (row : Row) (size : ℕ) (listed : Listed) (old new : Held) → AddsStore listed size old new → listed ≡ listed_as row [] [] → size ≡ row.size → place_of row.identifier old.stores ≡ None
     → largest_in old.sizes row.identifier ≡ 0 → is_lawful_row row ≡ true → length old.stores < 32 → reserved_by old.stores + blocks_for_size row.size ≤ 504 → PutsStore row old new
-puts-new row size listed old new adds is large fresh none lawful few most = record {
+puts-new row size store old new adds is large fresh none lawful few most = record {
   stores = row-behind row old.stores fresh lawful few most ∙ ap Some (ap (λ (l : Listed). old.stores ++ l ∷ []) (sym is) ∙ sym adds.stores);
   largest = λ identifier. adds.largest identifier
     ∙ (λ i. if nat_eq identifier (is i).row.identifier then large i else largest_in old.sizes identifier)

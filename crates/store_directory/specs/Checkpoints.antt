@@ -1,5 +1,5 @@
 -- A directory as the text of a checkpoint, with the erase counts of the device's blocks.
-use Rattle.std.specs.Prelude.{ℕ, zero, suc, ◌*◌, Bool, ◌&&◌, ◌==◌, nat_le, nat_lt, List, [], ◌∷◌, ◌++◌, length, drop, is_some, Option, Some, None}
+use Rattle.std.specs.Prelude.{ℕ, zero, suc, ◌*◌, Bool, ◌&&◌, ◌==◌, nat_le, nat_lt, List, [], ◌∷◌, ◌++◌, length, drop, map, is_some, Option, Some, None}
 use Rattle.std.specs.List.{flat_map, list_all}
 use Rattle.octet_fields.specs.Fields.{big_bytes, field}
 use Rattle.block_pool.specs.Sizes.{blocks_for_size}
@@ -125,8 +125,8 @@ are_lawful stores =
     list_all is_lawful_listed stores && are_distinct (identifiers stores)
     && nat_le (length stores) 32 && nat_le (reserved_by stores) 504
 
--- Whether a directory that a text spells may stand. It may if and only if its identifiers differ, its
--- lists of patterns are lawful, and in turn each row fits as a Put, and its links as Links.
+-- Whether a directory that a text spells may stand. Where its identifiers differ and its lists of
+-- patterns are lawful, this is so if and only if in turn each row fits as a Put, and its links as Links.
 unfoldable pub is_lawful : Directory → Bool
 is_lawful d = nat_lt d.reports 16384 && is_pattern_list d.forward && are_lawful d.stores
 
@@ -141,6 +141,10 @@ read_checkpoint blocks text = do
 abbrev pub apply_links : Directory → (store : ℕ) → List Link → Option Directory
 apply_links d store [] = Some d
 apply_links d store (link ∷ links) = apply d (Links store (link ∷ links))
+
+-- stores without their patterns
+abbrev pub bare : Listed → Listed
+bare s = record s { patterns = [] }
 
 -- Stores one after another: a row fits as a Put, and its links as Links.
 abbrev pub apply_stores : Directory → List Listed → Option Directory
