@@ -68,7 +68,7 @@ impl<'a> CheckpointText<'a> {
         ensures value { MatchOption result (checkpoint_in blocks text.now ≡ None)
             (λ read. checkpoint_in blocks text.now ≡ Some (checkpoint_of read)) }
         ensures now { IfSome result (λ read. read.now < 2 ^ 48) }
-        ensures counts { IfSome result (λ read. length read.wear ≡ blocks) }
+        ensures wear { IfSome result (λ read. length read.wear ≡ blocks) }
     {
         if text.len() < 8 {
             return None;
@@ -91,8 +91,9 @@ impl<'a> CheckpointText<'a> {
 
 // The counts that a text is. None where it has not as many octets.
 fn counts_of<'a>(text: &'a [u8], blocks: usize) -> Option<CountText<'a>>
-    ensures { MatchOption result (length text.now ≡ 4 * blocks → ⊥)
+    ensures counts { MatchOption result (length text.now ≡ 4 * blocks → ⊥)
         (λ counts. (length text.now ≡ 4 * blocks) × (counts ≡ counts_in blocks text.now)) }
+    ensures many { IfSome result (λ counts. length counts ≡ blocks) }
 {
     if text.len() % COUNT != 0 || text.len() / COUNT != blocks {
         return None;
