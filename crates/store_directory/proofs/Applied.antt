@@ -1,10 +1,10 @@
 -- What a change makes of a directory, from what it makes of its stores.
-use Rattle.std.proofs.Common.{◌≡◌, ℕ, ◌<◌, Bool, true, false, List, refl, sym, ap, ◌∙◌}
+use Rattle.std.proofs.Common.{◌≡◌, ℕ, Bool, List, sym, ap, ◌∙◌}
 use Rattle.std.specs.Prelude.{Err, IfErr, None, Ok, OnErr, OnOk, Option, Result, Some, is_ok}
 use Rattle.std.specs.Option.{option_and_then, option_map}
 use Rattle.std.proofs.lemmas.Bool.{false≢true, true≢false}
 use Rattle.control_defs.specs.declared.patterns.Pattern.{Pattern}
-use Rattle.store_directory.specs.Changes.{Change, Forward, apply, change_patterns}
+use Rattle.store_directory.specs.Changes.{Forward, apply, change_patterns}
 use Rattle.store_directory.specs.Directory.{Directory, Listed, with_stores}
 use Rattle.store_directory.specs.declared.fault.ApplyFault.{ApplyFault}
 use Rattle.store_directory.specs.declared.fault.ApplyFault.TheVariants.{NoMemory, Unfit}

@@ -1,13 +1,10 @@
 -- A slot that was changed, and the directory's stores then.
-use Rattle.std.proofs.Common.{◌≡◌, ℕ, zero, suc, ◌+◌, ◌<◌, ◌≤◌, true, List, [], ◌∷◌, length, nat_eq, slice_set, refl, sym, ap, subst, ◌∙◌, arith}
+use Rattle.std.proofs.Common.{◌≡◌, ℕ, zero, suc, true, List, [], ◌∷◌, nat_eq, refl, sym, ap, subst, ◌∙◌, arith}
 use Rattle.std.specs.Prelude.{Option, Some, None, slice_get}
-use Rattle.std.specs.List.{All}
 use Rattle.indexmap.specs.Layout.{length-set_value_at, set_value_at}
-use Rattle.block_pool.specs.Sizes.{blocks_for_size}
 use Rattle.store_directory.specs.Changes.{change_store}
-use Rattle.store_directory.specs.Directory.{Listed, are_distinct, find_store, identifiers, place_of, put_store, reserved_by}
-use Rattle.store_directory.specs.Options.{◌>>=◌}
-use Rattle.store_directory.specs.Slots.{AreSlots, Held, IsEntry, IsSlot, KeepsSlot, listed_of, sizes_of, stores_of}
+use Rattle.store_directory.specs.Directory.{Listed, are_distinct, find_store, identifiers, place_of, put_store}
+use Rattle.store_directory.specs.Slots.{AreSlots, Held, KeepsSlot, listed_of, sizes_of, stores_of}
 use Rattle.store_directory.specs.declared.slot.Slot.{Slot}
 use Rattle.store_directory.proofs.Held.{Entries, each-written, entry-at, identifiers-written, reserved-written, shown-at, sizes-written, stores-written}
 use Rattle.store_directory.proofs.Places.{absent-position, find-absent, find-first, first-position, own-first, put-first, IsFirst}

@@ -1,13 +1,13 @@
 -- A text whose changes are made one after another.
-use Rattle.std.proofs.Common.{◌≡◌, ◌≢◌, ℕ, ◌+◌, ◌-◌, ◌<◌, ◌≤◌, List, [], ◌∷◌, ◌++◌, length, take, drop, refl, sym, ap, subst, ◌∙◌, arith}
+use Rattle.std.proofs.Common.{◌≡◌, ◌≢◌, ℕ, ◌<◌, ◌≤◌, List, [], ◌∷◌, ◌++◌, length, take, drop, refl, sym, ap, subst, ◌∙◌, arith}
 use Rattle.std.specs.Prelude.{None, Option, Some, ◌==◌, if◌then◌else◌}
 use Rattle.std.specs.Option.{option_and_then}
 use Rattle.std.proofs.lemmas.List.{length-drop, take-append-drop, take_all}
 use Rattle.std.proofs.Math.Seq.{take-add}
 use Rattle.store_directory.specs.Changes.{Change, Clock, Forward, Gone, Links, Put, Swap, Types, apply, apply_all}
 use Rattle.store_directory.specs.Directory.{Directory}
-use Rattle.store_directory.specs.Entries.{change_in, changes_in, width_in}
-use Rattle.store_directory.specs.Folds.{IsUnfit, Makes, MakesOne, SizesAfter, Stops, StopsHere, fold_entry}
+use Rattle.store_directory.specs.Entries.{changes_in, width_in}
+use Rattle.store_directory.specs.Folds.{Makes, MakesOne, Stops, StopsHere, fold_entry}
 use Rattle.store_directory.specs.Kept.{Kept, largest_after, largest_after_all}
 use Rattle.store_directory.specs.Slots.{greater, largest_in}
 use Rattle.store_directory.specs.declared.fault.FoldFault.{FoldFault}
@@ -59,11 +59,11 @@ makes-more text at next old mid new makes one = record {
   changes = makes.changes ++ one.change ∷ [];
   within = one.within;
   spelled = subst (λ (front : List ℕ). changes_in front ≡ Some (makes.changes ++ one.change ∷ []))
-    (sym (ap (λ (n : ℕ). take n text) one.behind ∙ take-add at (width_in (drop at text)) text))
-    (changes_in-more (take at text) (drop at text) makes.changes one.change makes.spelled one.spelled);
+      (sym (ap (λ (n : ℕ). take n text) one.behind ∙ take-add at (width_in (drop at text)) text))
+      (changes_in-more (take at text) (drop at text) makes.changes one.change makes.spelled one.spelled);
   made = after old.directory mid.directory makes.changes (one.change ∷ []) makes.made ∙ alone (apply mid.directory one.change) ∙ one.made;
   sizes = λ n. one.sizes n ∙ same-after one.change (largest_in mid.sizes) (largest_after_all makes.changes (largest_in old.sizes)) makes.sizes n
-    ∙ sym (largest-append makes.changes one.change (largest_in old.sizes) n);
+      ∙ sym (largest-append makes.changes one.change (largest_in old.sizes) n);
 }
 
 -- an entry that is made to its end

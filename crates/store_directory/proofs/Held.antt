@@ -1,17 +1,16 @@
 -- The entries of the map of stores, and what they show.
-use Rattle.std.proofs.Common.{◌≡◌, ℕ, zero, suc, ◌+◌, ◌<◌, ◌≤◌, Bool, true, false, cond, not, ◌&&◌, List, [], ◌∷◌, ◌++◌, length, map, nat_eq, slice_set, refl, sym, ap, subst, ◌∙◌, arith}
-use Rattle.std.specs.Prelude.{Option, Some, None, slice_get, position}
+use Rattle.std.proofs.Common.{◌≡◌, ℕ, zero, suc, ◌+◌, Bool, true, false, cond, List, [], ◌∷◌, ◌++◌, nat_eq, slice_set, refl, sym, ap, subst, ◌∙◌, arith}
+use Rattle.std.specs.Prelude.{Some, slice_get, position}
 use Rattle.std.specs.List.{All}
 use Rattle.std.specs.Map.{keys_of, remove_entry}
 use Rattle.std.specs.Option.{option_map}
-use Rattle.std.proofs.lemmas.Bool.{cond-false, cond-true}
 use Rattle.std.proofs.lemmas.List.{map-append}
 use Rattle.std.proofs.lemmas.List.Elements.{All-cons, All-head, All-tail}
 use Rattle.std.proofs.lemmas.Option.{get_or_from_slice_get, slice_get-map, slice_get_within}
 use Rattle.indexmap.specs.Layout.{set_value_at}
 use Rattle.block_pool.specs.Sizes.{blocks_for_size}
-use Rattle.store_directory.specs.Directory.{Listed, are_distinct, identifiers, is_new, place_of, reserved_by, without_store}
-use Rattle.store_directory.specs.Slots.{IsEntry, IsSlot, listed_of, sizes_of, stores_of}
+use Rattle.store_directory.specs.Directory.{identifiers, place_of, reserved_by, without_store}
+use Rattle.store_directory.specs.Slots.{IsEntry, listed_of, sizes_of, stores_of}
 use Rattle.store_directory.specs.declared.slot.Slot.{Slot}
 
 abbrev pub Entries : Type 0

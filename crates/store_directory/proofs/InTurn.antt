@@ -1,15 +1,15 @@
 -- Stores that fit in turn may stand together.
-use Rattle.std.proofs.Common.{◌≡◌, ℕ, zero, suc, ◌+◌, ◌<◌, ◌≤◌, Bool, true, false, ◌&&◌, List, [], ◌∷◌, ◌++◌, length, map, nat_eq, refl, sym, ap, subst, ⊎_elim, ◌∙◌, append_assoc, append-nil, arith, length-append}
-use Rattle.std.specs.Prelude.{All, None, Option, Some, is_some, nat_le}
+use Rattle.std.proofs.Common.{◌≡◌, ◌+◌, ◌<◌, ◌≤◌, Bool, true, false, ◌&&◌, List, [], ◌∷◌, ◌++◌, length, map, nat_eq, refl, sym, ap, subst, ⊎_elim, ◌∙◌, append_assoc, append-nil, arith, length-append}
+use Rattle.std.specs.Prelude.{None, Option, Some, is_some, nat_le}
 use Rattle.std.specs.List.{list_all}
-use Rattle.std.specs.Option.{option_and_then, option_map}
+use Rattle.std.specs.Option.{option_and_then}
 use Rattle.std.proofs.lemmas.Bool.{and_from, and_parts, cases_lt, false≢true, le-leb, lt-leb, lt-ltb}
 use Rattle.std.proofs.lemmas.List.{map-append}
 use Rattle.block_pool.specs.Sizes.{blocks_for_size}
 use Rattle.control_defs.specs.Lists.{is_pattern_list}
 use Rattle.record_view.specs.declared.link.Link.{Link}
-use Rattle.store_directory.specs.Changes.{Links, Put, apply, change_store, put_row, with_links}
-use Rattle.store_directory.specs.Checkpoints.{apply_links, apply_stores, are_lawful, bare, is_lawful, is_lawful_listed}
+use Rattle.store_directory.specs.Changes.{Put, apply, change_store, put_row, with_links}
+use Rattle.store_directory.specs.Checkpoints.{apply_links, apply_stores, bare, is_lawful, is_lawful_listed}
 use Rattle.store_directory.specs.Directory.{Directory, Listed, are_distinct, identifiers, place_of, put_store, reserved_by, with_stores}
 use Rattle.store_directory.specs.Options.{◌>>=◌, given}
 use Rattle.store_directory.specs.Rows.{is_lawful_row}
@@ -61,24 +61,24 @@ many-links d stores s absent many = by s.links many
 module _ (d e : Directory) (front : List Listed) (s : Listed) (back : List Listed) (absent : IsAbsent (nat_eq s.identifier) (identifiers (map bare front)))
     (rest : length (front ++ s ∷ []) ≤ 32 → reserved_by (front ++ s ∷ []) ≤ 504 → apply_stores (with_stores d (map bare (front ++ s ∷ []))) back ≡ Some e → FitBehind (front ++ s ∷ []) back)
   where
-  before : List Listed
-  before = map bare front
+    before : List Listed
+    before = map bare front
 
-  abbrev links_next : Directory → Option Directory
-  links_next put = apply_links put s.identifier s.links >>= λ linked. apply_stores linked back
+    abbrev links_next : Directory → Option Directory
+    links_next put = apply_links put s.identifier s.links >>= λ linked. apply_stores linked back
 
-  abbrev stores_next : Directory → Option Directory
-  stores_next linked = apply_stores linked back
+    abbrev stores_next : Directory → Option Directory
+    stores_next linked = apply_stores linked back
 
-  here : map bare (front ++ s ∷ []) ≡ before ++ bare s ∷ []
-  unfolding before
-  here = map-append bare front (s ∷ [])
+    here : map bare (front ++ s ∷ []) ≡ before ++ bare s ∷ []
+    unfolding before
+    here = map-append bare front (s ∷ [])
 
-  fits : is_lawful_row s.row ≡ true → length before < 32 → reserved_by before + blocks_for_size s.size ≤ 504 → apply_stores (with_stores d before) (s ∷ back) ≡ Some e → FitBehind front (s ∷ back)
-  unfolding before
-  fits lawful few reserved made = ⊎_elim
-      (λ many. never (apply_links (with_stores d (before ++ listed_as s.row [] [] ∷ [])) s.identifier s.links) stores_next e (FitBehind front (s ∷ back)) put (many-links d before s absent many))
-      (λ links.
+    fits : is_lawful_row s.row ≡ true → length before < 32 → reserved_by before + blocks_for_size s.size ≤ 504 → apply_stores (with_stores d before) (s ∷ back) ≡ Some e → FitBehind front (s ∷ back)
+    unfolding before
+    fits lawful few reserved made = ⊎_elim
+        (λ many. never (apply_links (with_stores d (before ++ listed_as s.row [] [] ∷ [])) s.identifier s.links) stores_next e (FitBehind front (s ∷ back)) put (many-links d before s absent many))
+        (λ links.
         let linked = then (apply_links (with_stores d (before ++ listed_as s.row [] [] ∷ [])) s.identifier s.links) (with_stores d (before ++ bare s ∷ [])) stores_next e put
         (put_links d before s.row s.links absent links) in
         let regrouped : (front ++ s ∷ []) ++ back ≡ front ++ s ∷ back = append_assoc front (s ∷ []) back in
@@ -90,32 +90,32 @@ module _ (d e : Directory) (front : List Listed) (s : Listed) (back : List Liste
           reserved = omega (arith, behind.reserved, ap reserved_by regrouped);
           fit = (lawful, links, behind.fit);
         })
-      (cases_lt (blocks_for_size s.size) (length s.links))
-    where
-      put : links_next (with_stores d (before ++ listed_as s.row [] [] ∷ [])) ≡ Some e
-      put = then (apply (with_stores d before) (Put s.row)) (with_stores d (before ++ listed_as s.row [] [] ∷ [])) links_next e made
-          (put-last d before s.row lawful absent (omega (arith, few)) reserved)
+        (cases_lt (blocks_for_size s.size) (length s.links))
+      where
+        put : links_next (with_stores d (before ++ listed_as s.row [] [] ∷ [])) ≡ Some e
+        put = then (apply (with_stores d before) (Put s.row)) (with_stores d (before ++ listed_as s.row [] [] ∷ [])) links_next e made
+            (put-last d before s.row lawful absent (omega (arith, few)) reserved)
 
-  fails : put_row s.row before ≡ None → apply_stores (with_stores d before) (s ∷ back) ≡ Some e → FitBehind front (s ∷ back)
-  unfolding apply
-  fails none made = never (apply (with_stores d before) (Put s.row)) links_next e (FitBehind front (s ∷ back)) made (with-none (with_stores d before) (put_row s.row before) none)
+    fails : put_row s.row before ≡ None → apply_stores (with_stores d before) (s ∷ back) ≡ Some e → FitBehind front (s ∷ back)
+    unfolding apply
+    fails none made = never (apply (with_stores d before) (Put s.row)) links_next e (FitBehind front (s ∷ back)) made (with-none (with_stores d before) (put_row s.row before) none)
 
-  pub one-fits : apply_stores (with_stores d (map bare front)) (s ∷ back) ≡ Some e → FitBehind front (s ∷ back)
-  unfolding before
-  one-fits made = by (is_lawful_row s.row) refl
-    where
-      none : place_of s.identifier before ≡ None
-      none = position-absent (nat_eq s.identifier) (identifiers before) absent
+    pub one-fits : apply_stores (with_stores d (map bare front)) (s ∷ back) ≡ Some e → FitBehind front (s ∷ back)
+    unfolding before
+    one-fits made = by (is_lawful_row s.row) refl
+      where
+        none : place_of s.identifier before ≡ None
+        none = position-absent (nat_eq s.identifier) (identifiers before) absent
 
-      by : (test : Bool) → is_lawful_row s.row ≡ test → FitBehind front (s ∷ back)
-      by false is = fails (unlawful s.row before is) made
-      by true is = ⊎_elim
-          (λ few. ⊎_elim
-          (λ many. fails (no-place s.row before none (λ room. let within = room.1 in absurd (omega (arith, many, within)))) made)
-          (λ within. fits is few within made)
-          (cases_lt 504 (reserved_by before + blocks_for_size s.size)))
-          (λ many. fails (no-place s.row before none (λ room. let few = room.0 in absurd (omega (arith, many, few)))) made)
-          (cases_lt (length before) 32)
+        by : (test : Bool) → is_lawful_row s.row ≡ test → FitBehind front (s ∷ back)
+        by false is = fails (unlawful s.row before is) made
+        by true is = ⊎_elim
+            (λ few. ⊎_elim
+            (λ many. fails (no-place s.row before none (λ room. let within = room.1 in absurd (omega (arith, many, within)))) made)
+            (λ within. fits is few within made)
+            (cases_lt 504 (reserved_by before + blocks_for_size s.size)))
+            (λ many. fails (no-place s.row before none (λ room. let few = room.0 in absurd (omega (arith, many, few)))) made)
+            (cases_lt (length before) 32)
 
 in-turn : (d e : Directory) (front back : List Listed) → length front ≤ 32 → reserved_by front ≤ 504 → are_distinct (identifiers (front ++ back)) ≡ true
     → apply_stores (with_stores d (map bare front)) back ≡ Some e → FitBehind front back

@@ -1,11 +1,10 @@
 -- The stores where a row was put in the place of the one of a slot, or a slot was put behind the
 -- others.
-use Rattle.std.proofs.Common.{◌≡◌, ℕ, zero, suc, ◌+◌, ◌<◌, ◌≤◌, Bool, true, false, List, [], ◌∷◌, ◌++◌, length, map, nat_eq, refl, sym, ap, subst, inl, inr, ◌⊎◌, ◌∙◌, arith, length-append}
+use Rattle.std.proofs.Common.{◌≡◌, ℕ, zero, suc, ◌+◌, ◌<◌, ◌≤◌, Bool, true, false, List, [], ◌∷◌, ◌++◌, length, nat_eq, refl, sym, ap, subst, inl, inr, ◌⊎◌, ◌∙◌, arith, length-append}
 use Rattle.std.specs.Prelude.{IfSome, None, Option, Some, nat_lt, slice_get, if◌then◌else◌}
 use Rattle.std.proofs.lemmas.Bool.{cond-false, cond-true, eqb-true, lt-ltb}
 use Rattle.std.specs.Map.{keys_of, lookup}
 use Rattle.indexmap.proofs.MapLemmas.{Missing-position}
-use Rattle.std.specs.List.{All}
 use Rattle.std.proofs.lemmas.List.{length-map}
 use Rattle.std.proofs.lemmas.List.Elements.{All-push}
 use Rattle.indexmap.specs.Layout.{length-set_value_at, set_value_at}
@@ -21,7 +20,7 @@ use Rattle.store_directory.proofs.ChangedSlots.{StandsAt, found, own, put-writte
 use Rattle.store_directory.proofs.Held.{Entries, each-written, entry-at, identifiers-written, identifiers-keys, place-keys, reserved-written, shown-at, stores-pushed}
 use Rattle.store_directory.proofs.Places.{IsAbsent, IsFirst, absent-position, find-absent, find-last, find-other, first-position, put-absent}
 use Rattle.store_directory.proofs.Puts.{distinct-pushed, linked, put-is, trimmed-none}
-use Rattle.store_directory.proofs.Sizes.{largest-absent, largest-first, largest-pushed, largest-written}
+use Rattle.store_directory.proofs.Sizes.{largest-first, largest-pushed, largest-written}
 use Rattle.store_directory.proofs.Reserved.{reserved-pushed}
 
 -- a row that is put in the place of the one at the place of its identifier
@@ -117,8 +116,8 @@ replaces row es now i k s view slots place there most = record {
   slots = slots;
   at = record { place = ap (λ h. place_of row.identifier h.stores) view ∙ place; there = there };
   most =
-    subst (λ (o : Option Listed). IfSome o (λ t. reserved_by (stores_of es) + blocks_for_size row.size ≤ 504 + blocks_for_size t.size)) (shown-at es i k s there)
-    (subst (λ (h : Held). IfSome (slice_get h.stores i) (λ t. reserved_by h.stores + blocks_for_size row.size ≤ 504 + blocks_for_size t.size)) (sym view) most);
+      subst (λ (o : Option Listed). IfSome o (λ t. reserved_by (stores_of es) + blocks_for_size row.size ≤ 504 + blocks_for_size t.size)) (shown-at es i k s there)
+      (subst (λ (h : Held). IfSome (slice_get h.stores i) (λ t. reserved_by h.stores + blocks_for_size row.size ≤ 504 + blocks_for_size t.size)) (sym view) most);
 }
 
 module _ (row : Row) (es : Entries) (now : Held) (i k : ℕ) (s new : Slot) (r : Replaces row es now i k s) where
@@ -130,7 +129,7 @@ module _ (row : Row) (es : Entries) (now : Held) (i k : ℕ) (s new : Slot) (r :
   puts-after lawful puts = record {
     stores = ap (λ h. put_row row h.stores) (sym r.view) ∙ row-put row es i k s new r.slots r.at puts lawful r.most;
     largest = λ identifier. sizes-put row es i k s new r.slots r.at puts identifier
-      ∙ ap (λ h. if nat_eq identifier row.identifier then greater (largest_in h.sizes row.identifier) row.size else largest_in h.sizes identifier) r.view;
+        ∙ ap (λ h. if nat_eq identifier row.identifier then greater (largest_in h.sizes row.identifier) row.size else largest_in h.sizes identifier) r.view;
   }
 
   pub unfit-after : blocks_for_size row.size < length (trimmed row.first row.count s.links.items) → put_row row now.stores ≡ None
@@ -171,7 +170,7 @@ module _ (es : Entries) (now : Held) (new : Slot) (r : Pushes es now new) where
     fresh = ap (λ h. place_of new.row.identifier h.stores) (sym r.view) ∙ r.fresh;
     stores = stores-pushed es new.row.identifier new ∙ ap (λ h. h.stores ++ listed_of new ∷ []) r.view;
     largest = λ identifier. sizes-pushed es new r.slots r.fresh identifier
-      ∙ ap (λ h. if nat_eq identifier new.row.identifier then new.largest else largest_in h.sizes identifier) r.view;
+        ∙ ap (λ h. if nat_eq identifier new.row.identifier then new.largest else largest_in h.sizes identifier) r.view;
   }
 
 -- the map has no entry of an identifier that no store has
@@ -201,8 +200,8 @@ pub puts-new : (row : Row) (size : ℕ) (listed : Listed) (old new : Held) → A
 puts-new row size store old new adds is large fresh none lawful few most = record {
   stores = row-behind row old.stores fresh lawful few most ∙ ap Some (ap (λ (l : Listed). old.stores ++ l ∷ []) (sym is) ∙ sym adds.stores);
   largest = λ identifier. adds.largest identifier
-    ∙ (λ i. if nat_eq identifier (is i).row.identifier then large i else largest_in old.sizes identifier)
-    ∙ ap (λ (n : ℕ). if nat_eq identifier row.identifier then n else largest_in old.sizes identifier) (sym (ap (λ (n : ℕ). greater n row.size) none ∙ greater-none row.size));
+      ∙ (λ i. if nat_eq identifier (is i).row.identifier then large i else largest_in old.sizes identifier)
+      ∙ ap (λ (n : ℕ). if nat_eq identifier row.identifier then n else largest_in old.sizes identifier) (sym (ap (λ (n : ℕ). greater n row.size) none ∙ greater-none row.size));
 }
 
 -- a store that was added, which has been no greater than it is

@@ -1,12 +1,12 @@
 -- When a row may be put among stores.
-use Rattle.std.proofs.Common.{◌≡◌, ℕ, zero, suc, ◌+◌, ◌<◌, ◌≤◌, Bool, true, false, not, ◌&&◌, List, [], ◌∷◌, ◌++◌, length, nat_eq, slice_set, refl, sym, ap, subst, inl, inr, ⊎_elim, ◌∙◌, arith, length-append}
+use Rattle.std.proofs.Common.{◌≡◌, ℕ, zero, suc, ◌+◌, ◌<◌, ◌≤◌, Bool, true, false, not, ◌&&◌, List, [], ◌∷◌, ◌++◌, length, nat_eq, slice_set, refl, sym, ap, ⊎_elim, ◌∙◌, arith, length-append}
 use Rattle.std.specs.Prelude.{IfSome, None, Option, Some, is_some, nat_le, slice_get, ⊤}
 use Rattle.std.specs.Option.{option_and_then}
 use Rattle.std.proofs.lemmas.Bool.{cases_lt, false≢true, and_from, and_parts, eqb-false, eqb-true, false_from_ne_true, le-leb, lt-leb, not_from_false}
 use Rattle.block_pool.specs.Sizes.{blocks_for_size}
 use Rattle.store_directory.specs.Changes.{allowed, listed_by, may_stand, put_row}
 use Rattle.store_directory.specs.Directory.{Listed, are_distinct, find_store, identifiers, is_new, place_of, put_store, reserved_by, trimmed}
-use Rattle.store_directory.specs.Options.{◌>>=◌, given}
+use Rattle.store_directory.specs.Options.{given}
 use Rattle.store_directory.specs.Rows.{is_lawful_row}
 use Rattle.store_directory.specs.declared.row.Row.{Row}
 use Rattle.store_directory.proofs.Places.{IsAbsent, absent-position, first-position, put-absent, put-first, some-first}

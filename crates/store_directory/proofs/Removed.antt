@@ -1,5 +1,5 @@
 -- A store that goes, and what is kept of the others.
-use Rattle.std.proofs.Common.{◌≡◌, ℕ, ◌+◌, ◌≤◌, Bool, true, false, cond, not, ◌&&◌, List, [], ◌∷◌, length, nat_eq, refl, sym, ap, subst, ◌∙◌, arith}
+use Rattle.std.proofs.Common.{◌≡◌, ℕ, ◌≤◌, true, not, List, [], ◌∷◌, length, nat_eq, refl, sym, subst, arith}
 use Rattle.std.specs.Prelude.{IsSome, None, Option, Some, slice_get}
 use Rattle.std.specs.Option.{option_and_then}
 use Rattle.std.specs.List.{All}
@@ -8,8 +8,7 @@ use Rattle.std.proofs.lemmas.Bool.{and_from, and_parts, cond_both, false≢true}
 use Rattle.std.proofs.lemmas.List.Elements.{All-cons, All-head, All-tail}
 use Rattle.store_directory.specs.Changes.{remove_store}
 use Rattle.store_directory.specs.Directory.{Listed, are_distinct, find_store, identifiers, is_new, place_of, reserved_by, without_store}
-use Rattle.store_directory.specs.Slots.{AreSlots, IsEntry, listed_of, stores_of}
-use Rattle.store_directory.specs.declared.slot.Slot.{Slot}
+use Rattle.store_directory.specs.Slots.{AreSlots, IsEntry, stores_of}
 use Rattle.store_directory.proofs.Held.{Entries, stores-removed}
 use Rattle.store_directory.proofs.Places.{absent-position, find-absent, find-first, first-position, some-first}
 

@@ -1,5 +1,5 @@
 -- The greatest size of the store of each identifier, where an entry is written, added or taken out.
-use Rattle.std.proofs.Common.{◌≡◌, ℕ, zero, suc, Bool, true, false, cond, not, ◌&&◌, List, [], ◌∷◌, ◌++◌, nat_eq, refl, sym, ap, subst, ◌∙◌, arith}
+use Rattle.std.proofs.Common.{◌≡◌, ℕ, zero, suc, Bool, true, false, cond, not, List, [], ◌∷◌, ◌++◌, nat_eq, refl, sym, ap, subst, ◌∙◌}
 use Rattle.std.specs.Prelude.{Some, if◌then◌else◌, slice_get}
 use Rattle.std.specs.Map.{keys_of, remove_entry}
 use Rattle.std.proofs.lemmas.Bool.{and_parts, cond-false, cond-true, eq-eqb, eqb-false, eqb-true, false_from_ne_true, not-true}
@@ -38,13 +38,13 @@ module _ (identifier : ℕ) where
   front size e old new apart rest other =
       either (nat_eq other e.0) (
       λ same.
-        here e new other same
-        ∙ sym (here e old other same)
-        ∙ sym (cond-false (nat_eq other identifier) size (largest (e ∷ old) other) (apart_by identifier e.0 other apart same))
+      here e new other same
+      ∙ sym (here e old other same)
+      ∙ sym (cond-false (nat_eq other identifier) size (largest (e ∷ old) other) (apart_by identifier e.0 other apart same))
       ) (
       λ later.
-        passed e new other later ∙ rest other
-        ∙ ap (λ n. if nat_eq other identifier then size else n) (sym (passed e old other later))
+      passed e new other later ∙ rest other
+      ∙ ap (λ n. if nat_eq other identifier then size else n) (sym (passed e old other later))
       )
 
   pub largest-written : (es : Entries) (i : ℕ) (new : Slot) → IsFirst (nat_eq identifier) (keys_of es) i → IsNow new.largest (largest es) (largest (set_value_at es i new))
@@ -52,13 +52,13 @@ module _ (identifier : ℕ) where
   largest-written (e ∷ es) zero new first other =
       either (nat_eq other e.0) (
       λ same.
-        here (e.0, new) es other same
-        ∙ sym (cond-true (nat_eq other identifier) new.largest (largest (e ∷ es) other) (eq-eqb other identifier (eqb-true other e.0 same ∙ sym (eqb-true identifier e.0 first))))
+      here (e.0, new) es other same
+      ∙ sym (cond-true (nat_eq other identifier) new.largest (largest (e ∷ es) other) (eq-eqb other identifier (eqb-true other e.0 same ∙ sym (eqb-true identifier e.0 first))))
       ) (
       λ later.
-        passed (e.0, new) es other later ∙ sym (passed e es other later)
-        ∙ sym (cond-false (nat_eq other identifier) new.largest (largest (e ∷ es) other)
-        (false_from_ne_true (nat_eq other identifier) (λ is. eqb-false other e.0 later (eqb-true other identifier is ∙ eqb-true identifier e.0 first))))
+      passed (e.0, new) es other later ∙ sym (passed e es other later)
+      ∙ sym (cond-false (nat_eq other identifier) new.largest (largest (e ∷ es) other)
+      (false_from_ne_true (nat_eq other identifier) (λ is. eqb-false other e.0 later (eqb-true other identifier is ∙ eqb-true identifier e.0 first))))
       )
   largest-written (e ∷ es) (suc i) new first other = front new.largest e es (set_value_at es i new) first.0 (largest-written es i new first.1) other
 
@@ -94,12 +94,12 @@ module _ (identifier : ℕ) where
       let parts = and_parts (is_new e.0 (keys_of es)) (are_distinct (keys_of es)) distinct in
       either (nat_eq identifier e.0) (
       λ first.
-        ap (λ l. largest l other) (cond-true (nat_eq identifier e.0) es (e ∷ remove_entry (nat_eq identifier) es) first)
-        ∙ gone first parts.0
+      ap (λ l. largest l other) (cond-true (nat_eq identifier e.0) es (e ∷ remove_entry (nat_eq identifier) es) first)
+      ∙ gone first parts.0
       ) (
       λ apart.
-        ap (λ l. largest l other) (cond-false (nat_eq identifier e.0) es (e ∷ remove_entry (nat_eq identifier) es) apart)
-        ∙ front 0 e es (remove_entry (nat_eq identifier) es) apart (largest-removed es parts.1) other
+      ap (λ l. largest l other) (cond-false (nat_eq identifier e.0) es (e ∷ remove_entry (nat_eq identifier) es) apart)
+      ∙ front 0 e es (remove_entry (nat_eq identifier) es) apart (largest-removed es parts.1) other
       )
     where
       gone : nat_eq identifier e.0 ≡ true → is_new e.0 (keys_of es) ≡ true → largest es other ≡ (if nat_eq other identifier then 0 else largest (e ∷ es) other)
@@ -107,11 +107,11 @@ module _ (identifier : ℕ) where
           let is_key = eqb-true identifier e.0 first in
           either (nat_eq other identifier) (
           λ same.
-            ap (largest es) (eqb-true other identifier same)
-            ∙ largest-absent es (new-absent (keys_of es) (subst (λ n. is_new n (keys_of es) ≡ true) (sym is_key) new))
-            ∙ sym (cond-true (nat_eq other identifier) 0 (largest (e ∷ es) other) same)
+          ap (largest es) (eqb-true other identifier same)
+          ∙ largest-absent es (new-absent (keys_of es) (subst (λ n. is_new n (keys_of es) ≡ true) (sym is_key) new))
+          ∙ sym (cond-true (nat_eq other identifier) 0 (largest (e ∷ es) other) same)
           ) (
           λ apart.
-            sym (passed e es other (subst (λ n. nat_eq other n ≡ false) is_key apart))
-            ∙ sym (cond-false (nat_eq other identifier) 0 (largest (e ∷ es) other) apart)
+          sym (passed e es other (subst (λ n. nat_eq other n ≡ false) is_key apart))
+          ∙ sym (cond-false (nat_eq other identifier) 0 (largest (e ∷ es) other) apart)
           )

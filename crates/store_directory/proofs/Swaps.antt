@@ -1,9 +1,8 @@
 -- The last link of a list, and another one in its place.
-use Rattle.std.proofs.Common.{◌≡◌, ◌<◌, ◌-◌, ℕ, zero, suc, List, [], ◌∷◌, length, slice_set, refl, ap, ◌∙◌, arith}
-use Rattle.std.specs.Prelude.{Option, Some, None}
+use Rattle.std.proofs.Common.{◌≡◌, ℕ, zero, suc, List, [], ◌∷◌, length, slice_set, refl, arith}
+use Rattle.std.specs.Prelude.{Some, None}
 use Rattle.record_view.specs.declared.link.Link.{Link}
 use Rattle.store_directory.specs.Directory.{swap_last}
-use Rattle.store_directory.specs.Options.{◌>>=◌}
 
 -- the swapped list is the one that is written at the last place
 pub swap_last-is : (new : Link) (links : List Link) (last : ℕ) → length links ≡ suc last → swap_last new links ≡ Some (slice_set links last new)

@@ -1,18 +1,17 @@
 -- The stores of a directory as octets, store by store, and how many they are.
-use Rattle.std.proofs.Common.{◌≡◌, ℕ, zero, suc, ◌+◌, ◌*◌, ◌<◌, ◌≤◌, List, [], ◌∷◌, ◌++◌, length, take, get_or, refl, sym, ap, subst, ◌∙◌, arith, length-append}
-use Rattle.std.specs.Prelude.{IfSome, Option, Some, None, slice_get}
-use Rattle.std.specs.List.{All, flat_map}
+use Rattle.std.proofs.Common.{◌≡◌, ℕ, zero, suc, ◌+◌, ◌*◌, ◌<◌, ◌≤◌, List, [], ◌∷◌, ◌++◌, length, take, get_or, sym, ap, subst, ◌∙◌, arith, length-append}
+use Rattle.std.specs.Prelude.{IfSome, Some, slice_get}
+use Rattle.std.specs.List.{All}
 use Rattle.std.proofs.lemmas.List.Elements.{All-head, All-tail}
 use Rattle.std.proofs.lemmas.List.Folds.{length-flat_map-take}
 use Rattle.std.proofs.lemmas.Option.{get_or_from_slice_get}
 use Rattle.octet_fields.specs.Fields.{Writes}
 use Rattle.octet_fields.proofs.Rows.{flat_map-more}
-use Rattle.octet_fields.proofs.Splices.{Writes-then, length-Writes}
-use Rattle.block_pool.specs.Sizes.{blocks_for_size}
+use Rattle.octet_fields.proofs.Splices.{Writes-then}
 use Rattle.control_defs.specs.declared.patterns.Pattern.{Pattern}
 use Rattle.record_view.specs.declared.link.Link.{Link}
 use Rattle.store_directory.specs.Checkpoints.{listed_octets, stores_octets}
-use Rattle.store_directory.specs.Directory.{AreListed, IsListed, Listed, reserved_by}
+use Rattle.store_directory.specs.Directory.{IsListed, Listed, reserved_by}
 use Rattle.store_directory.specs.Views.{listed_as}
 use Rattle.store_directory.specs.Written.{WritesStores}
 use Rattle.store_directory.specs.declared.row.Row.{Row}

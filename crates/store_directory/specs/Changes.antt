@@ -1,5 +1,5 @@
 -- Changes of a directory, and when they fit.
-use Rattle.std.specs.Prelude.{◌≡◌, ◌<◌, ◌^◌, ℕ, Bool, true, false, ◌&&◌, nat_le, nat_lt, List, [], ◌∷◌, ◌++◌, length, Option, Some, None}
+use Rattle.std.specs.Prelude.{ℕ, Bool, true, false, ◌&&◌, nat_le, nat_lt, List, [], ◌∷◌, ◌++◌, length, Option, Some, None}
 use Rattle.std.specs.Option.{option_map}
 use Rattle.block_pool.specs.Sizes.{blocks_for_size}
 use Rattle.control_defs.specs.Lists.{is_standing, with_pattern, without_pattern}

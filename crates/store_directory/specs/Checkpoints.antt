@@ -1,5 +1,5 @@
 -- A directory as the text of a checkpoint, with the erase counts of the device's blocks.
-use Rattle.std.specs.Prelude.{ℕ, zero, suc, ◌*◌, Bool, ◌&&◌, ◌==◌, nat_le, nat_lt, List, [], ◌∷◌, ◌++◌, length, drop, map, is_some, Option, Some, None}
+use Rattle.std.specs.Prelude.{ℕ, zero, suc, ◌*◌, Bool, ◌&&◌, ◌==◌, nat_le, nat_lt, List, [], ◌∷◌, ◌++◌, length, drop, Option, Some, None}
 use Rattle.std.specs.List.{flat_map, list_all}
 use Rattle.octet_fields.specs.Fields.{big_bytes, field}
 use Rattle.block_pool.specs.Sizes.{blocks_for_size}

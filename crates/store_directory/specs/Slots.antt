@@ -79,7 +79,7 @@ pub record PutsStore (row : Row) (old new : Held) : Type 0 where
   pub stores : put_row row old.stores ≡ Some new.stores
   pub largest : (identifier : ℕ) → largest_in new.sizes identifier
       ≡ (if identifier == row.identifier then greater (largest_in old.sizes row.identifier) row.size
-        else largest_in old.sizes identifier)
+      else largest_in old.sizes identifier)
 
 -- A store was put behind the others, and this is the greatest size that it has had.
 pub record AddsStore (listed : Listed) (size : ℕ) (old new : Held) : Type 0 where

@@ -41,7 +41,11 @@ pub(crate) fn sized(identifier: u16, size: u32) -> Row {
 }
 
 fn holding(first: u32, count: u32) -> Row {
-    Row { first, count, ..ROW }
+    Row {
+        first,
+        count,
+        ..ROW
+    }
 }
 
 fn is_pattern(pattern: &Pattern) -> bool
@@ -146,7 +150,11 @@ fn links_without_a_record_of_the_row_leave_the_front(rt: HostRuntime) -> Result<
         (0, 0, 0),
     ] {
         let mut directory = two_stores(rt.alloc())?;
-        make(&mut directory, rt.alloc(), &Change::Put(holding(first, count)))?;
+        make(
+            &mut directory,
+            rt.alloc(),
+            &Change::Put(holding(first, count)),
+        )?;
         let links = links_of(&directory, 1);
         assert_eq!(rt; links.len(), left);
         assert!(rt; links == &LINKS[3 - left..]);
@@ -193,30 +201,82 @@ fn a_change_that_does_not_fit_is_refused(rt: HostRuntime) -> Result<(), Fail> {
         Row { channel: 0, ..ROW },
         Row { channel: 8, ..ROW },
         holding(0, 65),
-        Row { count: 9, behind: 10, ..ROW },
-        Row { count: 9, range: Some((4, 4)), ..ROW },
-        Row { count: 9, range: Some((4, 10)), ..ROW },
+        Row {
+            count: 9,
+            behind: 10,
+            ..ROW
+        },
+        Row {
+            count: 9,
+            range: Some((4, 4)),
+            ..ROW
+        },
+        Row {
+            count: 9,
+            range: Some((4, 10)),
+            ..ROW
+        },
     ];
     for row in rows {
         let mut directory = two_stores(rt.alloc())?;
-        assert_eq!(rt; make(&mut directory, rt.alloc(), &Change::Put(row)), Err(ApplyFault::Unfit));
+        assert_eq!(rt;
+            make(&mut directory, rt.alloc(), &Change::Put(row)),
+            Err(ApplyFault::Unfit)
+        );
     }
     let pattern = Pattern::App(7);
     for change in [
-        Change::Clock { now: 0, reports: 16_384 },
+        Change::Clock {
+            now: 0,
+            reports: 16_384,
+        },
         Change::Gone(3),
-        Change::Forward { add: false, pattern },
-        Change::Types { store: 3, add: true, pattern },
-        Change::Types { store: 2, add: false, pattern },
-        Change::Links { store: 3, links: &LINKS },
-        Change::Links { store: 2, links: &[] },
-        Change::Links { store: 1, links: &LINKS[..1] },
-        Change::Links { store: 2, links: &five },
-        Change::Swap { store: 3, block: 9, first: 0 },
-        Change::Swap { store: 2, block: 9, first: 0 },
+        Change::Forward {
+            add: false,
+            pattern,
+        },
+        Change::Types {
+            store: 3,
+            add: true,
+            pattern,
+        },
+        Change::Types {
+            store: 2,
+            add: false,
+            pattern,
+        },
+        Change::Links {
+            store: 3,
+            links: &LINKS,
+        },
+        Change::Links {
+            store: 2,
+            links: &[],
+        },
+        Change::Links {
+            store: 1,
+            links: &LINKS[..1],
+        },
+        Change::Links {
+            store: 2,
+            links: &five,
+        },
+        Change::Swap {
+            store: 3,
+            block: 9,
+            first: 0,
+        },
+        Change::Swap {
+            store: 2,
+            block: 9,
+            first: 0,
+        },
     ] {
         let mut directory = two_stores(rt.alloc())?;
-        assert_eq!(rt; make(&mut directory, rt.alloc(), &change), Err(ApplyFault::Unfit));
+        assert_eq!(rt;
+            make(&mut directory, rt.alloc(), &change),
+            Err(ApplyFault::Unfit)
+        );
         assert!(rt; directory.len() == 2 && directory.now() == 16);
         assert!(rt; links_of(&directory, 1) == LINKS.as_slice());
     }
@@ -230,11 +290,17 @@ fn reservations_end_at_504_blocks(rt: HostRuntime) -> Result<(), Fail> {
     make(&mut directory, rt.alloc(), &Change::Put(sized(3, 99_840)))?;
     assert!(rt; directory.reserved() == 426);
     let more = Change::Put(sized(4, 18_240));
-    assert_eq!(rt; make(&mut directory, rt.alloc(), &more), Err(ApplyFault::Unfit));
+    assert_eq!(rt;
+        make(&mut directory, rt.alloc(), &more),
+        Err(ApplyFault::Unfit)
+    );
     make(&mut directory, rt.alloc(), &Change::Put(sized(4, 18_239)))?;
     assert!(rt; directory.reserved() == 504);
     let larger = Change::Put(sized(2, 480));
-    assert_eq!(rt; make(&mut directory, rt.alloc(), &larger), Err(ApplyFault::Unfit));
+    assert_eq!(rt;
+        make(&mut directory, rt.alloc(), &larger),
+        Err(ApplyFault::Unfit)
+    );
     make(&mut directory, rt.alloc(), &Change::Put(sized(2, 239)))?;
     assert!(rt; directory.reserved() == 503);
     Ok(())
@@ -247,16 +313,38 @@ fn a_33rd_store_and_a_65th_pattern_do_not_fit(rt: HostRuntime) -> Result<(), Fai
         make(&mut directory, rt.alloc(), &Change::Put(sized(store, 1)))?;
     }
     let one_more = Change::Put(sized(33, 1));
-    assert_eq!(rt; make(&mut directory, rt.alloc(), &one_more), Err(ApplyFault::Unfit));
+    assert_eq!(rt;
+        make(&mut directory, rt.alloc(), &one_more),
+        Err(ApplyFault::Unfit)
+    );
     make(&mut directory, rt.alloc(), &Change::Put(sized(32, 2)))?;
     for apid in 0..64 {
         let pattern = Pattern::App(apid);
-        make(&mut directory, rt.alloc(), &Change::Types { store: 5, add: true, pattern })?;
+        make(
+            &mut directory,
+            rt.alloc(),
+            &Change::Types {
+                store: 5,
+                add: true,
+                pattern,
+            },
+        )?;
     }
     let pattern = Pattern::App(64);
-    let types = Change::Types { store: 5, add: true, pattern };
-    assert_eq!(rt; make(&mut directory, rt.alloc(), &types), Err(ApplyFault::Unfit));
-    let every = Change::Types { store: 5, add: true, pattern: Pattern::Every };
+    let types = Change::Types {
+        store: 5,
+        add: true,
+        pattern,
+    };
+    assert_eq!(rt;
+        make(&mut directory, rt.alloc(), &types),
+        Err(ApplyFault::Unfit)
+    );
+    let every = Change::Types {
+        store: 5,
+        add: true,
+        pattern: Pattern::Every,
+    };
     make(&mut directory, rt.alloc(), &every)?;
     make(&mut directory, rt.alloc(), &types)?;
     Ok(())

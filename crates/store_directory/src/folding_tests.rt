@@ -1,8 +1,8 @@
 // Texts of entries and of checkpoints, whole, cut, and with an octet changed.
 
+use crate::change::Change;
 use crate::directory::Directory;
 use crate::directory_tests::{LINKS, ROW, links_of, make, sized};
-use crate::change::Change;
 use crate::fault::FoldFault;
 use control_defs::Pattern;
 use std::alloc::Global;

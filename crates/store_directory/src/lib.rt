@@ -25,8 +25,8 @@ pub use change_writing::write_change;
 pub use directory::Directory;
 pub use fault::{ApplyFault, FoldFault};
 pub use laws::{
-    directories_fit_in_turn, kept_directories_are_read, written_changes_are_read, written_checkpoints_are_read,
-    written_entries_are_read,
+    directories_fit_in_turn, kept_directories_are_read, written_changes_are_read,
+    written_checkpoints_are_read, written_entries_are_read,
 };
 pub use row::Row;
 
@@ -35,8 +35,8 @@ mod change_tests;
 #[cfg(test)]
 mod checkpoint_tests;
 #[cfg(test)]
-mod row_tests;
-#[cfg(test)]
 mod directory_tests;
 #[cfg(test)]
 mod folding_tests;
+#[cfg(test)]
+mod row_tests;

@@ -142,9 +142,7 @@ impl Slot {
             return Err(ApplyFault::Unfit);
         }
         if row.size > self.largest {
-            self.links
-                .reserve(room)
-                .map_err(|_| ApplyFault::NoMemory)?;
+            self.links.reserve(room).map_err(|_| ApplyFault::NoMemory)?;
             self.largest = row.size;
         }
         self.links.drop_front(gone);

@@ -213,7 +213,11 @@ impl Stores {
     }
 
     /// Puts all stores that a text spells behind the others. `Unfit` where they may not stand together.
-    pub(crate) fn add_all(&mut self, alloc: Global, stores: &mut StoresText<'_>) -> Result<(), ApplyFault>
+    pub(crate) fn add_all(
+        &mut self,
+        alloc: Global,
+        stores: &mut StoresText<'_>,
+    ) -> Result<(), ApplyFault>
         ensures ok { OnOk result (self.new.stores ≡ self.old.stores ++ stores.old) }
         ensures own { OnOk result (HasOwnSizes self.old → HasOwnSizes self.new) }
         ensures unfit { (result ≡ Err ApplyFault.Unfit)

@@ -1,4 +1,4 @@
-use Rattle.std.proofs.Common.{◌≡◌, ◌≢◌, ◌<◌, ◌≤◌, length, sym, subst, ap, arith, rules}
+use Rattle.std.proofs.Common.{◌≡◌, ◌≢◌, sym, subst, rules}
 use Rattle.std.specs.Prelude.{Err, IfErr, None, Ok, Result}
 use Rattle.std.specs.Result.{IsErrAnd}
 use Rattle.store_directory.specs.Folds.{Makes, Stops, fold_entry}

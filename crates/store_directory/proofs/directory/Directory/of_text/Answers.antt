@@ -1,5 +1,5 @@
-use Rattle.std.proofs.Common.{◌≡◌, ◌<◌, subst, ap, rules}
-use Rattle.store_directory.specs.Directory.{AreListed, IsDirectory}
+use Rattle.std.proofs.Common.{subst, rules}
+use Rattle.store_directory.specs.Directory.{AreListed}
 use Rattle.store_directory.proofs.Kept.{are-listed}
 use Rattle.store_directory.proofs.Lawful.{lawful-from_kept}
 use Rattle.store_directory.proofs.directory.Directory.of_text.Goals as goal

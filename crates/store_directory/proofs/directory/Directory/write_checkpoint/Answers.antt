@@ -1,10 +1,10 @@
-use Rattle.std.proofs.Common.{◌≡◌, ◌<◌, ◌≤◌, ◌+◌, ◌*◌, ◌++◌, ◌∷◌, [], List, ℕ, length, sym, subst, ap, ◌∙◌, append_assoc, arith, rules, length-append}
+use Rattle.std.proofs.Common.{◌++◌, ◌∷◌, [], List, ℕ, length, subst, ap, ◌∙◌, arith, length-append}
 use Rattle.octet_fields.specs.Fields.{Writes, big_bytes}
 use Rattle.octet_fields.proofs.Splices.{Writes-then, length-Writes}
 use Rattle.octet_fields.proofs.Rows.{length-rows}
 use Rattle.control_defs.specs.PatternOctets.{pattern_octets}
 use Rattle.control_defs.proofs.PatternOctets.{length-pattern_octets}
-use Rattle.store_directory.specs.Checkpoints.{checkpoint_octets, counts_octets, patterns_octets, stores_octets}
+use Rattle.store_directory.specs.Checkpoints.{patterns_octets, stores_octets}
 use Rattle.store_directory.proofs.CheckpointParts.{in_turn, length-parts, parts-are}
 use Rattle.store_directory.proofs.WrittenStores.{few-octets}
 use Rattle.store_directory.proofs.directory.Directory.write_checkpoint.Goals as goal

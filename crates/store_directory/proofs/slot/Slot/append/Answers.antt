@@ -1,10 +1,9 @@
-use Rattle.std.proofs.Common.{◌≡◌, ◌<◌, ◌≤◌, ◌+◌, ◌++◌, ◌∷◌, [], List, length, take, ap, sym, ◌∙◌, append_assoc, subst, arith}
+use Rattle.std.proofs.Common.{◌≡◌, ◌<◌, ◌+◌, ◌++◌, ◌∷◌, [], List, length, take, ap, sym, ◌∙◌, append_assoc, subst, arith}
 use Rattle.std.specs.List.{All}
 use Rattle.std.proofs.lemmas.List.Elements.{All-push}
 use Rattle.std.proofs.lemmas.List.{take_more}
 use Rattle.std.proofs.lemmas.Option.{get_or_from_slice_get, slice_get_within}
 use Rattle.record_view.specs.declared.link.Link.{Link}
-use Rattle.store_directory.specs.Appended.{HasMore}
 use Rattle.store_directory.specs.Directory.{FitsLink}
 use Rattle.store_directory.proofs.slot.Slot.append.Goals as goal
 
@@ -19,8 +18,8 @@ loop-at-preserved g c =
     let so_far = c.loop-at.invariant in
     record {
       items =
-        c.push.ensures.items ∙ ap (λ (l : List Link). l ++ link ∷ []) so_far.items
-        ∙ append_assoc c.args.self.now.links.items (take c.loop-at.at links) (link ∷ []) ∙ ap (λ (l : List Link). c.args.self.now.links.items ++ l) (sym more);
+          c.push.ensures.items ∙ ap (λ (l : List Link). l ++ link ∷ []) so_far.items
+          ∙ append_assoc c.args.self.now.links.items (take c.loop-at.at links) (link ∷ []) ∙ ap (λ (l : List Link). c.args.self.now.links.items ++ l) (sym more);
       fitting = subst (All FitsLink) (sym more) (All-push FitsLink (take c.loop-at.at links) link so_far.fitting c.get.ensures.fits);
       room = omega (arith, so_far.room, c.push.ensures.kept);
       row = so_far.row;

@@ -1,6 +1,5 @@
-use Rattle.std.proofs.Common.{◌≡◌, Some, refl, ap}
+use Rattle.std.proofs.Common.{refl, ap}
 use Rattle.std.proofs.lemmas.Result.{on_err_weaker, on_ok_weaker}
-use Rattle.store_directory.specs.Slots.{IsSlot, KeepsSlot, listed_of}
 use Rattle.store_directory.proofs.slot.Slot.change_types.Goals as goal
 
 pub returns-clause-ok : goal.returns-clause-ok

@@ -1,6 +1,5 @@
-use Rattle.std.proofs.Common.{◌≡◌, ◌<◌, ◌≤◌, length, drop, ap, ◌∙◌, sym, arith, rules, subst}
+use Rattle.std.proofs.Common.{◌≡◌, ◌<◌, drop, arith, rules}
 use Rattle.std.proofs.lemmas.List.{length-drop}
-use Rattle.store_directory.specs.Directory.{trimmed}
 use Rattle.store_directory.proofs.Trims.{passed, passed-within, trimmed-drops}
 use Rattle.store_directory.proofs.slot.Slot.count_gone.Goals as goal
 

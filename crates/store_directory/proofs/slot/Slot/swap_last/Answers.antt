@@ -1,8 +1,7 @@
-use Rattle.std.proofs.Common.{◌≡◌, ◌<◌, ◌≤◌, ◌-◌, suc, Some, length, refl, sym, subst, arith, rules}
+use Rattle.std.proofs.Common.{◌≡◌, ◌<◌, ◌-◌, length, refl, sym, subst, arith, rules}
 use Rattle.std.specs.List.{All}
 use Rattle.std.proofs.lemmas.List.Elements.{All-set}
 use Rattle.store_directory.specs.Directory.{FitsLink}
-use Rattle.store_directory.specs.Slots.{IsSlot, KeepsSlot, listed_of}
 use Rattle.store_directory.proofs.Swaps.{swap_last-is}
 use Rattle.store_directory.proofs.slot.Slot.swap_last.Goals as goal
 

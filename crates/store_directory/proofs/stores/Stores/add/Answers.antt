@@ -1,7 +1,6 @@
-use Rattle.std.proofs.Common.{◌≡◌, ◌<◌, ◌≤◌, ◌+◌, rules, subst}
-use Rattle.std.specs.Prelude.{IsSome}
+use Rattle.std.proofs.Common.{rules}
 use Rattle.store_directory.specs.Spelled.{text_of}
-use Rattle.store_directory.proofs.Unlawful.{unlawful-again, unlawful-place, unlawful-store}
+use Rattle.store_directory.proofs.Unlawful.{unlawful-again, unlawful-place}
 use Rattle.store_directory.proofs.stores.Stores.add.Goals as goal
 
 pub returns-then-is_some-clause-unfit : goal.returns-then-is_some-clause-unfit

@@ -1,5 +1,4 @@
-use Rattle.std.proofs.Common.{◌≡◌, refl, sym, ◌∙◌}
-use Rattle.std.specs.Prelude.{None, Some}
+use Rattle.std.proofs.Common.{refl, sym}
 use Rattle.std.proofs.lemmas.Result.{on_err_weaker, on_ok_weaker}
 use Rattle.store_directory.specs.Changes.{with_links}
 use Rattle.store_directory.proofs.ChangedSlots.{before, changed-store, missing, refused-store, same-sizes, slots-kept}

@@ -1,4 +1,4 @@
-use Rattle.std.proofs.Common.{subst, ap}
+use Rattle.std.proofs.Common.{subst}
 use Rattle.store_directory.specs.Directory.{AreListed}
 use Rattle.store_directory.proofs.Kept.{are-listed}
 use Rattle.store_directory.proofs.stores.Stores.len.Goals as goal

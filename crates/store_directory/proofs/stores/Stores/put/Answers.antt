@@ -1,6 +1,5 @@
-use Rattle.std.proofs.Common.{◌≡◌, ◌+◌, ◌<◌, ◌≤◌, sym, arith, rules}
+use Rattle.std.proofs.Common.{◌+◌, ◌<◌, sym, rules}
 use Rattle.std.proofs.lemmas.Option.{IfSome_then}
-use Rattle.std.proofs.lemmas.Bool.{false≢true}
 use Rattle.block_pool.specs.Sizes.{blocks_for_size}
 use Rattle.store_directory.specs.Directory.{reserved_by}
 use Rattle.store_directory.proofs.Puts.{no-place, no-room}

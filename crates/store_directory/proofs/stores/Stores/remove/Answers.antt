@@ -1,7 +1,6 @@
-use Rattle.std.proofs.Common.{◌≡◌, ℕ, true, nat_eq, refl, ap, rules, subst, sym, ◌∙◌}
-use Rattle.std.specs.Prelude.{None, Some, if◌then◌else◌}
-use Rattle.store_directory.specs.Changes.{remove_store}
-use Rattle.store_directory.specs.Directory.{are_distinct, place_of, without_store}
+use Rattle.std.proofs.Common.{◌≡◌, true, nat_eq, refl, ap, rules, subst, sym, ◌∙◌}
+use Rattle.std.specs.Prelude.{Some, if◌then◌else◌}
+use Rattle.store_directory.specs.Directory.{are_distinct, without_store}
 use Rattle.store_directory.specs.Slots.{AreSlots, largest_in, sizes_of, stores_of}
 use Rattle.store_directory.proofs.Held.{identifiers-keys, stores-removed}
 use Rattle.store_directory.proofs.Removed.{none-removed, slots-removed, some-removed}

@@ -1,4 +1,4 @@
-use Rattle.std.proofs.Common.{◌≡◌, ◌+◌, ◌≤◌, suc, drop, ap, ◌∙◌, arith, rules}
+use Rattle.std.proofs.Common.{◌≡◌, ◌+◌, suc, drop, ap, arith, rules}
 use Rattle.store_directory.specs.Directory.{reserved_by}
 use Rattle.store_directory.proofs.Reserved.{reserved-at}
 use Rattle.store_directory.proofs.stores.Stores.reserved.Goals as goal
