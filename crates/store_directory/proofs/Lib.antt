@@ -26,3 +26,6 @@ pub mod Widths
 pub mod WrittenChanges
 pub mod Folded
 pub mod WrittenCheckpoints
+pub mod Sames
+pub mod FirstCheckpoints
+pub mod SameRows

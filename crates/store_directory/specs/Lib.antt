@@ -13,3 +13,4 @@ pub mod Views
 pub mod Spelled
 pub mod Folds
 pub mod Format
+pub mod Same

@@ -1,10 +1,11 @@
 // Laws on the octets of changes and of checkpoints.
-ghost use Rattle.std.specs.Prelude.{◌≡◌, ◌<◌, ◌^◌, ◌++◌, ℕ, All, List, Some, length, true};
+ghost use Rattle.std.specs.Prelude.{◌≡◌, ◌↔◌, ◌<◌, ◌^◌, ◌++◌, ℕ, All, List, Some, length, true};
 ghost use Rattle.store_directory.specs.Changes.{Change};
 ghost use Rattle.store_directory.specs.Checkpoints.{checkpoint_in, checkpoint_octets, is_lawful, read_checkpoint};
 ghost use Rattle.store_directory.specs.Directory.{Directory, IsDirectory};
 ghost use Rattle.store_directory.specs.Entries.{FitsChange, change_in, change_octets, changes_in, entry_octets, width_in};
 ghost use Rattle.store_directory.specs.Fitting.{FitsDirectory};
+ghost use Rattle.store_directory.specs.Same.{same_directory};
 
 /// A change whose numbers fit is read back from its octets, whatever stands behind them, and so is
 /// how many they are.
@@ -35,4 +36,9 @@ pub fn kept_directories_are_read()
     ensures read { (d : Directory) (wear : List ℕ) → IsDirectory d → All (λ count. count < 2 ^ 32) wear
         → read_checkpoint (length wear) (checkpoint_octets d wear)
         ≡ Some (record { directory = d; wear = wear }) }
+{}
+
+/// Two directories are one exactly where the test of them holds.
+pub fn directories_are_compared()
+    ensures { (d other : Directory) → (same_directory d other ≡ true) ↔ (d ≡ other) }
 {}

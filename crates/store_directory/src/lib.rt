@@ -8,6 +8,7 @@ mod change_writing;
 mod checkpoint_text;
 mod directory;
 mod fault;
+mod first_checkpoint;
 mod folding;
 mod laws;
 mod link_text;
@@ -15,6 +16,7 @@ mod links;
 mod pattern_text;
 mod row;
 mod row_text;
+mod sameness;
 mod slot;
 mod store_text;
 mod stores;
@@ -23,8 +25,9 @@ pub use change::Change;
 pub use change_writing::write_change;
 pub use directory::Directory;
 pub use fault::{ApplyFault, FoldFault};
+pub use first_checkpoint::write_first_checkpoint;
 pub use laws::{
-    kept_directories_are_read, written_changes_are_read, written_checkpoints_are_read,
+    directories_are_compared, kept_directories_are_read, written_changes_are_read, written_checkpoints_are_read,
     written_entries_are_read,
 };
 pub use row::Row;
