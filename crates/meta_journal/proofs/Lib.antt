@@ -1,0 +1,4 @@
+pub mod Chosen
+pub mod Frame
+pub mod Holding
+pub mod DirectoryRows

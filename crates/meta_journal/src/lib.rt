@@ -1,0 +1,9 @@
+//! The journal of a directory: the directory that an image holds, and the format that begins it.
+#![tactic(auto)]
+
+mod laws;
+
+pub use laws::{
+    advancing_keeps_the_directory, other_pages_may_hold_anything, repairing_keeps_the_directory,
+    rooted_images_hold_the_directory,
+};
