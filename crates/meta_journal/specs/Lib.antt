@@ -1,2 +1,3 @@
 pub mod Halves
 pub mod Directories
+pub mod Formats

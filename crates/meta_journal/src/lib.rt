@@ -1,8 +1,11 @@
 //! The journal of a directory: the directory that an image holds, and the format that begins it.
 #![tactic(auto)]
 
+mod formatting;
+mod half;
 mod laws;
 
+pub use formatting::format;
 pub use laws::{
     advancing_keeps_the_directory, other_pages_may_hold_anything, repairing_keeps_the_directory,
     rooted_images_hold_the_directory,
