@@ -4,9 +4,11 @@
 mod formatting;
 mod half;
 mod laws;
+mod reading;
 
 pub use formatting::format;
 pub use laws::{
     advancing_keeps_the_directory, other_pages_may_hold_anything, repairing_keeps_the_directory,
     rooted_images_hold_the_directory,
 };
+pub use reading::checkpoint_of;
