@@ -12,3 +12,6 @@ pub use laws::{
     rooted_images_hold_the_directory,
 };
 pub use reading::checkpoint_of;
+
+#[cfg(test)]
+mod tests;
