@@ -29,3 +29,6 @@ pub mod WrittenStores
 pub mod CheckpointParts
 pub mod Unlawful
 pub mod InTurn
+pub mod Sames
+pub mod FirstCheckpoints
+pub mod SameRows

@@ -14,3 +14,4 @@ pub mod Spelled
 pub mod Folds
 pub mod Written
 pub mod Format
+pub mod Same

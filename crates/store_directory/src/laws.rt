@@ -1,5 +1,5 @@
 // Laws on the octets of changes and of checkpoints.
-ghost use Rattle.std.specs.Prelude.{◌≡◌, ◌<◌, ◌^◌, ◌++◌, ℕ, [], All, List, Some, length, map, true};
+ghost use Rattle.std.specs.Prelude.{◌≡◌, ◌↔◌, ◌<◌, ◌^◌, ◌++◌, ℕ, [], All, List, Some, length, map, true};
 ghost use Rattle.store_directory.specs.Changes.{Change};
 ghost use Rattle.std.specs.List.{list_all};
 ghost use Rattle.control_defs.specs.Lists.{is_pattern_list};
@@ -7,6 +7,7 @@ ghost use Rattle.store_directory.specs.Checkpoints.{apply_stores, bare, checkpoi
 ghost use Rattle.store_directory.specs.Directory.{Directory, IsDirectory, are_distinct, identifiers, with_stores};
 ghost use Rattle.store_directory.specs.Entries.{FitsChange, change_in, change_octets, changes_in, entry_octets, width_in};
 ghost use Rattle.store_directory.specs.Fitting.{FitsDirectory};
+ghost use Rattle.store_directory.specs.Same.{same_directory};
 
 /// A change whose numbers fit is read back from its octets, whatever stands behind them, and so is
 /// how many they are.
@@ -49,4 +50,9 @@ pub fn directories_fit_in_turn()
         → list_all (λ s. is_pattern_list s.patterns) d.stores ≡ true
         → are_distinct (identifiers d.stores) ≡ true
         → apply_stores (with_stores d []) d.stores ≡ Some e → is_lawful d ≡ true }
+{}
+
+/// Two directories are one exactly where the test of them holds.
+pub fn directories_are_compared()
+    ensures { (d other : Directory) → (same_directory d other ≡ true) ↔ (d ≡ other) }
 {}

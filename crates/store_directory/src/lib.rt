@@ -9,6 +9,7 @@ mod checkpoint_text;
 mod checkpointing;
 mod directory;
 mod fault;
+mod first_checkpoint;
 mod folding;
 mod laws;
 mod link_text;
@@ -16,6 +17,7 @@ mod links;
 mod pattern_text;
 mod row;
 mod row_text;
+mod sameness;
 mod slot;
 mod store_text;
 mod stores;
@@ -24,9 +26,10 @@ pub use change::Change;
 pub use change_writing::write_change;
 pub use directory::Directory;
 pub use fault::{ApplyFault, FoldFault};
+pub use first_checkpoint::write_first_checkpoint;
 pub use laws::{
-    directories_fit_in_turn, kept_directories_are_read, written_changes_are_read,
-    written_checkpoints_are_read, written_entries_are_read,
+    directories_are_compared, directories_fit_in_turn, kept_directories_are_read,
+    written_changes_are_read, written_checkpoints_are_read, written_entries_are_read,
 };
 pub use row::Row;
 

@@ -1,0 +1,4 @@
+pub mod Halves
+pub mod Directories
+pub mod Formats
+pub mod Shown

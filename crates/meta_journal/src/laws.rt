@@ -1,0 +1,44 @@
+// Laws on the directory that an image holds.
+ghost use Rattle.std.specs.Prelude.{◌≡◌, ◌≤◌, ℕ, List, Some, true};
+ghost use Rattle.board.specs.Flash.{Flash, IsImage};
+ghost use Rattle.root_vote.specs.declared.root.Root.{Root};
+ghost use Rattle.root_vote.specs.Rooted.{IsBetween, IsRepaired, Rooted};
+ghost use Rattle.root_vote.specs.Roots.{choice_of};
+ghost use Rattle.store_directory.specs.Directory.{Directory};
+ghost use Rattle.meta_journal.specs.Directories.{FirmHalves, HoldsHalf, SameJournal, directory_of, is_own};
+ghost use Rattle.meta_journal.specs.Halves.{half_of};
+
+/// Images that agree on the three root pages and on the half that counts, or on both halves where the
+/// roots are split, hold the same directory. All other pages may hold anything, and among them the
+/// half that does not count.
+pub fn other_pages_may_hold_anything()
+    ensures { (blocks : ℕ) (image other : ℕ → List ℕ) → SameJournal image other
+        → directory_of blocks other ≡ directory_of blocks image }
+{}
+
+/// If the three roots are one root of this device, and its half holds a directory, then each image
+/// holds that directory.
+pub fn rooted_images_hold_the_directory()
+    ensures { (blocks : ℕ) (flash : Flash) (root : Root) (d : Directory) (image : ℕ → List ℕ)
+        → 16 ≤ blocks → Rooted root flash → is_own blocks root ≡ true
+        → HoldsHalf blocks (half_of root) d flash → IsImage blocks flash image
+        → directory_of blocks image ≡ Some d }
+{}
+
+/// While the roots go from one root of this device to another, and both halves hold one directory,
+/// each image holds that directory.
+pub fn advancing_keeps_the_directory()
+    ensures { (blocks : ℕ) (flash : Flash) (new old : Root) (d : Directory) (image : ℕ → List ℕ)
+        → 16 ≤ blocks → is_own blocks new ≡ true → is_own blocks old ≡ true
+        → HoldsHalf blocks 0 d flash → HoldsHalf blocks 1 d flash
+        → IsBetween blocks flash new old image → directory_of blocks image ≡ Some d }
+{}
+
+/// While the roots are made one again, each image holds the directory that the flash held, if the
+/// halves that count are firm.
+pub fn repairing_keeps_the_directory()
+    ensures { (blocks : ℕ) (flash : Flash) (d : Directory) (image : ℕ → List ℕ)
+        → 16 ≤ blocks → directory_of blocks flash.content ≡ Some d → FirmHalves flash
+        → IsRepaired blocks flash (choice_of flash.content) image
+        → directory_of blocks image ≡ Some d }
+{}
