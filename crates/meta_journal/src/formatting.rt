@@ -8,6 +8,7 @@
 //    directory.
 ghost use Rattle.std.specs.Prelude.{◌≡◌, ℕ, List, Some, OnOk, OnErr};
 ghost use Rattle.board.specs.Counts.{Rose};
+ghost use Rattle.board.specs.Flash.{IsImage};
 ghost use Rattle.board.specs.Meaning.{TellsFlash};
 ghost use Rattle.board.specs.Touches.{Touches};
 ghost use Rattle.store_directory.specs.Format.{first_directory};
@@ -40,6 +41,10 @@ pub fn format<B: Board>(board: &mut B) -> Result<(), Failed>
     // From `Ok` on each image holds the directory of a format.
     ensures holds { OnOk result (TellsFlash B.means board.old
         → (image : ℕ → List ℕ) → B.means.images board.new (B.means.moment board.new) image
+        → directory_of (B.means.device board.old).blocks image ≡ Some first_directory) }
+    // So does each that a later stop leaves, as long as the flash stays.
+    ensures later { OnOk result (TellsFlash B.means board.old → (image : ℕ → List ℕ)
+        → IsImage (B.means.device board.old).blocks (B.means.flash board.new) image
         → directory_of (B.means.device board.old).blocks image ≡ Some first_directory) }
 
     ensures touches { Touches B.means format_pages 12 5 8 board.old board.new }

@@ -16,7 +16,7 @@ use Rattle.session_text.proofs.Progressing.{has_read_bad, has_read_end, has_read
 use Rattle.handler.specs.Sending.{BreaksIn, SendsLines}
 use Rattle.handler.proofs.Sendings.{breaks_early, breaks_on, lines_on}
 use Rattle.station.specs.declared.ending.Ending.{Ending}
-use Rattle.station.specs.declared.ending.Ending.TheVariants.{Done, BadWords, BadLine, LinkFault, SourceFault, NoMemory}
+use Rattle.station.specs.declared.ending.Ending.TheVariants.{Done, BadWords, BadLine, FlashFault, LinkFault, SourceFault, NoMemory}
 use Rattle.pst_model.specs.Run.{lines_of, step}
 use Rattle.station.specs.Session.{AtArrival, Carried, Ended, EndsReading, EndsSending, IsStart, IsStoredArrival, Keeps, MayBeSent, StopsAt, lines_for, outputs_for, read_of, taken_of, text_limit}
 use Rattle.pst_model.specs.Table.{Table, after_format}
@@ -94,20 +94,6 @@ carried_none means input board source reader table lines start stands = record {
   takes_to = λ told. omega arith;
 }
 
--- where nothing was done
-pub keeps_none : {B S : Type 0} (means : BoardMeaning B) (input : SourceMeaning S) (board : B) (source : S)
-    → SendsLines means board board [] → Keeps means input board board source source
-keeps_none means input board source lines = record {
-  device = refl;
-  tells = refl;
-  flash = lines.stays;
-  sends = 0;
-  work = lines.work;
-  source_faults = omega arith;
-  takes_from = omega arith;
-  takes_to = λ told. omega arith;
-}
-
 module _ {B S : Type 0} (means : BoardMeaning B) (input : SourceMeaning S)
     (first board : B) (origin source : S) (reader : Reader) (table : Table) (carried : Carried means input first board origin source reader table) where
   -- all outputs so far, where they are those for these commands
@@ -131,14 +117,15 @@ module _ {B S : Type 0} (means : BoardMeaning B) (input : SourceMeaning S)
   -- an ending before which nothing more was sent
   pub ended_quietly : (source' : S) (ending : Ending) (pending : List ℕ)
       → (IsTrue (input.tells source) → pending ++ input.left source' ≡ reader.pending ++ input.left source)
-      → Asks input source source' 1 → ending ≢ BadWords
+      → Asks input source source' 1 → ending ≢ BadWords → ending ≢ FlashFault
       → (IsTrue (input.tells origin) → EndsReading (input.left origin) (input.left source') ending)
       → (IsTrue (input.tells origin) → EndsSending (input.left origin) (input.left source') (SendsLines means first board) (BreaksIn means first board) ending)
       → ending ≢ LinkFault → (ending ≡ SourceFault → Rose (input.faults source) (input.faults source'))
       → (ending ≢ SourceFault → input.faults source' ≡ input.faults source)
       → Ended means input first board origin source' ending
-  ended_quietly source' ending pending same asks known reading sending unlinked cause kept = record {
+  ended_quietly source' ending pending same asks known unformatted reading sending unlinked cause kept = record {
     known = known;
+    unformatted = unformatted;
     taken = λ told. (so_far told).split;
     reading = reading;
     sending = sending;
@@ -162,7 +149,7 @@ module _ {B S : Type 0} (means : BoardMeaning B) (input : SourceMeaning S)
       → input.faults source' ≡ input.faults source → (IsTrue (input.tells source) → next_at reader (input.left source) ≡ End)
       → Ended means input first board origin source' Done
   ended_done source' pending same asks kept next =
-      ended_quietly source' Done pending same asks (λ is. cc)
+      ended_quietly source' Done pending same asks (λ is. cc) (λ is. cc)
       (λ told. (subst (λ (limit : ℕ). first_bad limit (input.left origin) ≡ None) carried.limit (at_end told).1, none_left pending (input.left source') (same (carried.tells ∙ told) ∙ (at_end told).2)))
       (λ told. sent_all (commands_of text_limit (input.left origin)) (subst (λ (limit : ℕ). commands_of limit (input.left origin) ≡ carried.done) carried.limit (at_end told).0))
       (λ is. cc) (λ is. absurd cc) (λ is. kept)
@@ -182,7 +169,7 @@ module _ {B S : Type 0} (means : BoardMeaning B) (input : SourceMeaning S)
       → (IsTrue (input.tells source) → (next_at reader (input.left source) ≡ Bad why) × (line ≡ reader.number + 1))
       → Ended means input first board origin source' (BadLine line why)
   ended_bad source' pending line why same asks kept next =
-      ended_quietly source' (BadLine line why) pending same asks (λ is. cc)
+      ended_quietly source' (BadLine line why) pending same asks (λ is. cc) (λ is. cc)
       (λ told. subst (λ (limit : ℕ). first_bad limit (input.left origin) ≡ Some (line, why)) carried.limit ((at_bad told).1 ∙ ap (λ (n : ℕ). Some (n, why)) (sym (next (carried.tells ∙ told)).1)))
       (λ told. sent_all (commands_of text_limit (input.left origin)) (subst (λ (limit : ℕ). commands_of limit (input.left origin) ≡ carried.done) carried.limit (at_bad told).0))
       (λ is. cc) (λ is. absurd cc) (λ is. kept)
@@ -197,7 +184,7 @@ module _ {B S : Type 0} (means : BoardMeaning B) (input : SourceMeaning S)
       → Rose (input.faults source) (input.faults source')
       → Ended means input first board origin source' SourceFault
   ended_source source' pending same asks unended rose =
-      ended_quietly source' SourceFault pending same asks (λ is. cc)
+      ended_quietly source' SourceFault pending same asks (λ is. cc) (λ is. cc)
       (λ told. subst (λ (octets : List ℕ). bad_read text_limit octets ≡ None) (sym (is_taken told)) (subst (λ (limit : ℕ). bad_read limit (whole told).0 ≡ None) carried.limit (whole told).3))
       (λ told. sent_all (read_of (input.left origin) (input.left source')) (subst (λ (octets : List ℕ). commands_read text_limit octets ≡ carried.done) (sym (is_taken told)) (subst (λ (limit : ℕ). commands_read limit (whole told).0 ≡ carried.done) carried.limit (whole told).2)))
       (λ is. cc) (λ is. rose) (λ other. absurd (other refl))
@@ -242,6 +229,7 @@ module _ {B S : Type 0} (means : BoardMeaning B) (input : SourceMeaning S)
     pub ended_memory : IsStoredArrival command table → Ended means input first board origin source' NoMemory
     ended_memory stored = record {
       known = λ is. cc;
+      unformatted = λ is. cc;
       taken = λ told. (taken_on told).split;
       reading = λ told. (carried.done, stops told);
       sending = λ told. (carried.done, stops told, carried.lines);
@@ -270,6 +258,7 @@ module _ {B S : Type 0} (means : BoardMeaning B) (input : SourceMeaning S)
         → Ended means input first board' origin source' LinkFault
     ended_link board' breaks = record {
       known = λ is. cc;
+      unformatted = λ is. cc;
       taken = λ told. (taken_on told).split;
       reading = λ told. tt;
       sending = λ told.

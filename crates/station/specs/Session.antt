@@ -12,7 +12,7 @@ use Rattle.session_text.specs.Lending.{Reader}
 use Rattle.session_text.specs.Progress.{HasRead}
 use Rattle.pst_model.specs.Text.{bad_read, commands_of, commands_read, first_bad}
 use Rattle.station.specs.declared.ending.Ending.{Ending}
-use Rattle.station.specs.declared.ending.Ending.TheVariants.{Done, BadWords, BadLine, LinkFault, SourceFault, NoMemory}
+use Rattle.station.specs.declared.ending.Ending.TheVariants.{Done, BadWords, BadLine, FlashFault, LinkFault, SourceFault, NoMemory}
 use Rattle.pst_model.specs.Run.{lines_of, run}
 use Rattle.pst_model.specs.Table.{Table, after_format}
 
@@ -53,24 +53,26 @@ pub data StopsAt (text left : List ℕ) (done : List Command) : Type 0 where
       → IsStoredArrival command (run after_format done).table → StopsAt text left done
 
 -- What an ending says of the text, of which these octets are left: at Done it was read to its end and has
--- no bad line, BadLine is its first one, where the source failed no whole line that was taken is bad, and memory
--- was wanting for the session or for an arrival.
+-- no bad line, BadLine is its first one, where the source failed no whole line that was taken is bad, memory was
+-- wanting for the session or for an arrival, and where the flash failed nothing was taken.
 abbrev pub EndsReading : (text left : List ℕ) → Ending → Type 0
 EndsReading text left Done = (first_bad text_limit text ≡ None) × (left ≡ [])
 EndsReading text left (BadLine line why) = first_bad text_limit text ≡ Some (line, why)
 EndsReading text left SourceFault = bad_read text_limit (taken_of text left) ≡ None
 EndsReading text left LinkFault = ⊤
+EndsReading text left FlashFault = left ≡ text
 EndsReading text left NoMemory = (done : List Command) × StopsAt text left done
 EndsReading text left BadWords = ⊤
 
 -- What an ending says of what was sent: all of the outputs for the text's commands, for the commands before its
 -- first bad line, for the commands read, and for those carried out where memory was wanting. Where the link
--- failed, it broke within the outputs for the commands read.
+-- failed, it broke within the outputs for the commands read. Where the flash failed nothing was sent.
 abbrev pub EndsSending : (text left : List ℕ) → (Sent Broken : List Output → Type 0) → Ending → Type 0
 EndsSending text left Sent Broken Done = Sent (outputs_for (commands_of text_limit text))
 EndsSending text left Sent Broken (BadLine line why) = Sent (outputs_for (commands_of text_limit text))
 EndsSending text left Sent Broken SourceFault = Sent (outputs_for (read_of text left))
 EndsSending text left Sent Broken LinkFault = Broken (outputs_for (read_of text left))
+EndsSending text left Sent Broken FlashFault = Sent []
 EndsSending text left Sent Broken NoMemory = (done : List Command) × StopsAt text left done × Sent (outputs_for done)
 EndsSending text left Sent Broken BadWords = ⊤
 
@@ -88,7 +90,7 @@ EndsAsTold text ending = MatchOption (first_bad text_limit text)
     (λ bad. (ending ≡ BadLine bad.0 bad.1) ⊎ (ending ≡ NoMemory))
 
 module _ {B S : Type 0} (means : BoardMeaning B) (input : SourceMeaning S) where
-  -- What no session changes, and how it calls the outside: the flash is as it was, the link alone was called, and the
+  -- What no text changes, and how its session calls the outside: the flash is as it was, the link alone was called, and the
   -- source, where it tells, once for each octet that it gave at most, and once more.
   pub record Keeps (board board' : B) (source source' : S) : Type 0 where
     pub device : means.device board' ≡ means.device board
@@ -118,6 +120,7 @@ module _ {B S : Type 0} (means : BoardMeaning B) (input : SourceMeaning S) where
   -- A session that began with the first board and source ended so with the others.
   pub record Ended (board board' : B) (source source' : S) (ending : Ending) : Type 0 where
     pub known : ending ≢ BadWords
+    pub unformatted : ending ≢ FlashFault
     pub taken : IsTrue (input.tells source)
         → input.left source ≡ taken_of (input.left source) (input.left source') ++ input.left source'
     pub reading : IsTrue (input.tells source) → EndsReading (input.left source) (input.left source') ending

@@ -1,5 +1,5 @@
 -- The words that the program is called with.
-use Rattle.std.specs.Prelude.{◌≡◌, ℕ, ◌+◌, ◌-◌, ◌*◌, ◌&&◌, nat_le, Bool, if◌then◌else◌, List, [], ◌∷◌, length, map, fold, codes, Option, Some, None}
+use Rattle.std.specs.Prelude.{◌≡◌, ◌⊎◌, ℕ, ◌+◌, ◌-◌, ◌*◌, ◌&&◌, nat_le, Bool, if◌then◌else◌, List, [], ◌∷◌, length, map, fold, codes, Option, Some, None}
 use Rattle.std.specs.List.{list_all}
 use Rattle.std.specs.Str.{bytes_eq}
 use Rattle.std.specs.String.{string_bytes}
@@ -39,6 +39,12 @@ device_named (kind ∷ place ∷ words) =
 abbrev pub texts_of : Vec (String Global) Global → List (List ℕ)
 texts_of words = map string_bytes words.items
 
--- The words of a session: `fresh` alone.
+-- The words of a session: `fresh` alone, or `format` alone.
 abbrev pub AreFresh : List (List ℕ) → Type 0
 AreFresh words = words ≡ codes "fresh" ∷ []
+
+abbrev pub AreFormat : List (List ℕ) → Type 0
+AreFormat words = words ≡ codes "format" ∷ []
+
+abbrev pub AreKnown : List (List ℕ) → Type 0
+AreKnown words = AreFresh words ⊎ AreFormat words

@@ -12,6 +12,8 @@ pub enum Ending {
     BadWords,
     /// The line with this number, counted from 1, is bad. All commands before it were carried out.
     BadLine { line: u64, why: LineFault },
+    /// The flash failed. It may hold no directory.
+    FlashFault,
     /// The link failed.
     LinkFault,
     /// The source of the text failed.
@@ -31,6 +33,7 @@ impl Ending {
             Ending::Done => 0,
             Ending::BadWords => 1,
             Ending::BadLine { .. } => 2,
+            Ending::FlashFault => 4,
             Ending::LinkFault => 5,
             Ending::SourceFault => 6,
             Ending::NoMemory => 8,

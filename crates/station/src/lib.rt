@@ -1,6 +1,7 @@
 //! A session with the packet store: the top call of the program.
 #![tactic(auto)]
 
+mod carrying;
 mod ending;
 mod rehearsal;
 mod session;

@@ -1,7 +1,7 @@
 // A session over a device and a text in memory, which tell all: the premises of `station` are met.
 ghost use Rattle.std.specs.Prelude.{◌≤◌, IfOk};
-ghost use Rattle.station.specs.Rehearsal.{Rehearsed, Untouched};
-ghost use Rattle.station.specs.Words.{AreFresh, texts_of};
+ghost use Rattle.station.specs.Rehearsal.{Rehearsed, RehearsedFormat, Untouched};
+ghost use Rattle.station.specs.Words.{AreFormat, AreFresh, AreKnown, texts_of};
 
 use crate::ending::Ending;
 use crate::session::station;
@@ -27,7 +27,9 @@ pub fn rehearse(
     requires most { blocks ≤ 512 }
     ensures fresh { IfOk result (λ rehearsal. AreFresh (texts_of words.now)
         → Rehearsed blocks text.items rehearsal.ending rehearsal.board rehearsal.source) }
-    ensures other_words { IfOk result (λ rehearsal. ¬ (AreFresh (texts_of words.now))
+    ensures format { IfOk result (λ rehearsal. AreFormat (texts_of words.now)
+        → RehearsedFormat blocks text.items rehearsal.ending rehearsal.board rehearsal.source) }
+    ensures other_words { IfOk result (λ rehearsal. ¬ (AreKnown (texts_of words.now))
         → Untouched blocks text.items rehearsal.ending rehearsal.board rehearsal.source) }
 {
     let mut board = MemBoard::new(alloc, blocks)?;

@@ -1,154 +1,80 @@
-// One session: the commands of a text carried out on the table after a format, in memory.
-ghost use Rattle.std.specs.Prelude.{◌≡◌, ◌≤◌, ◌<◌, ◌++◌, ◌^◌, ◌↔◌, ℕ, true, IsTrue, OnOk, IfOk, IfSome, IfNone};
+// A session with the packet store: its words, the format that it begins with, and its text.
+ghost use Rattle.std.specs.Prelude.{◌≡◌, ◌≢◌, ◌++◌, ◌↔◌, IsTrue};
 ghost use Rattle.board.specs.Counts.{Rose};
-ghost use Rattle.board.specs.Meaning.{TellsLink};
+ghost use Rattle.board.specs.Meaning.{TellsFlash, TellsLink};
 ghost use Rattle.board.specs.Moments.{SendsOnly};
-ghost use Rattle.pst_model.specs.Run.{step};
-ghost use Rattle.pst_model.specs.Table.{after_format};
-ghost use Rattle.session_text.specs.Lending.{reader_of};
-ghost use Rattle.session_text.specs.Shown.{command_of, moment_of};
-ghost use Rattle.handler.specs.Faults.{OnLink, OnNoMemory};
-ghost use Rattle.handler.specs.Handler.{is_open, table_in};
-ghost use Rattle.handler.specs.Sending.{BreaksIn, CarriesOut, SendsLines};
-ghost use Rattle.station.specs.Session.{Carried, Ended, EndsAsTold, EndsReading, EndsSending, IsStart, IsStoredArrival, Keeps, MayBeSent, read_of, taken_of};
-ghost use Rattle.station.specs.Words.{AreFresh, texts_of};
+ghost use Rattle.station.specs.Promises.{FormatsOnly, HoldsFormat, KeepsPages, LinkBreaks, LinkSends};
+ghost use Rattle.station.specs.Session.{EndsAsTold, EndsReading, EndsSending, MayBeSent, read_of, taken_of};
+ghost use Rattle.station.specs.Words.{AreFormat, AreFresh, AreKnown, texts_of};
 
 use crate::ending::Ending;
-use crate::words::are_fresh;
+use crate::carrying::carry_out_text;
+use crate::words::{are_format, are_fresh};
 use board::{Board, Source};
-use handler::{Handler, HandlerFault, Sent};
-use session_text::{Command, LineEnd, Lines};
+use meta_journal::format;
 use std::alloc::Global;
 
-/// The octets of a text that are taken, at most: 2^40.
-const TEXT_LIMIT: u64 = 1_099_511_627_776;
-
-// Carries out one command.
-fn carry_out<B: Board>(
-    alloc: Global,
-    handler: &mut Handler,
-    board: &mut B,
-    command: Command<'_>,
-) -> Result<Sent, HandlerFault>
-    requires open { IsTrue (is_open handler.old) }
-    requires moment { moment_of command < 2 ^ 48 }
-    ensures done { IfOk result (CarriesOut B.means board.old board.new
-        (λ number. step number (command_of command.entry) (table_in handler.old)) (table_in handler.new)) }
-    ensures breaks { OnLink result ((number : ℕ) → BreaksIn B.means board.old board.new
-        (step number (command_of command.entry) (table_in handler.old)).outputs) }
-    ensures nothing { OnNoMemory result (board.new ≡ board.old) }
-    ensures stored { OnNoMemory result (IsStoredArrival (command_of command.entry) (table_in handler.old)) }
-    ensures open { OnOk result (is_open handler.new ≡ true) }
-{
-    match command {
-        Command::Arrival { moment, packet } => handler.arrival(alloc, board, moment, packet),
-        Command::Request { moment, packet } => handler.request(alloc, board, moment, packet),
-        Command::Grant { moment } => handler.grant(board, moment),
-    }
-}
-
-// Reads the next command and carries it out. None says that the session goes on.
-fn take_turn<B: Board, S: Source>(
-    alloc: Global,
-    lines: &mut Lines,
-    handler: &mut Handler,
-    source: &mut S,
-    board: &mut B,
-) -> Option<Ending>
-    requires open { IsTrue (is_open handler.old) }
-    requires live { IsTrue (reader_of lines.old).live }
-    ensures goes_on { IfNone result ((first : _) (origin : _)
-        → Carried B.means S.means first board.old origin source.old (reader_of lines.old) (table_in handler.old)
-        → Carried B.means S.means first board.new origin source.new (reader_of lines.new) (table_in handler.new)) }
-    ensures ends { IfSome result (λ ending. (first : _) (origin : _)
-        → Carried B.means S.means first board.old origin source.old (reader_of lines.old) (table_in handler.old)
-        → Ended B.means S.means first board.new origin source.new ending) }
-    ensures progress { IfNone result ((reader_of lines.old).place < (reader_of lines.new).place) }
-    ensures within { (reader_of lines.new).place ≤ (reader_of lines.new).limit }
-    ensures limit { (reader_of lines.new).limit ≡ (reader_of lines.old).limit }
-    ensures live { IfNone result (IsTrue (reader_of lines.new).live) }
-    ensures open { IfNone result (IsTrue (is_open handler.new)) }
-{
-    match lines.next_line(source) {
-        Ok(Some(command)) => match carry_out(alloc, handler, board, command) {
-            Ok(_) => None,
-            Err(HandlerFault::Link) => Some(Ending::LinkFault),
-            Err(HandlerFault::NoMemory) => Some(Ending::NoMemory),
-        },
-        Ok(None) => Some(Ending::Done),
-        Err(LineEnd::Bad { line, why }) => Some(Ending::BadLine { line, why }),
-        Err(LineEnd::Source) => Some(Ending::SourceFault),
-    }
-}
-
-// Carries out the commands of the text from its begin.
-fn carry_out_all<B: Board, S: Source>(
-    alloc: Global,
-    lines: &mut Lines,
-    handler: &mut Handler,
-    source: &mut S,
-    board: &mut B,
-) -> Ending
-    requires open { IsTrue (is_open handler.old) }
-    requires reader { IsStart (reader_of lines.old) }
-    requires table { table_in handler.old ≡ after_format }
-    ensures { Ended B.means S.means board.old board.new source.old source.new result }
-{
-    'commands: loop {
-        if let Some(ending) = take_turn(alloc, lines, handler, source, board) {
-            return ending;
-        }
-    }
-}
-
-/// A session: the words are `fresh` alone, and the commands of the text of `source` are carried out on
-/// the table after a format, whose output goes to the link of `board`.
+/// A session. `format`: the flash of `board` is formatted. `fresh`: it is formatted, and then the
+/// commands of the text of `source` are carried out on the table after a format, whose output goes to
+/// the link of `board`. They change no flash.
 pub fn station<B: Board, S: Source>(
     alloc: Global,
     words: &Vec<String>,
     source: &mut S,
     board: &mut B,
 ) -> Ending
-    ensures words { (result ≡ Ending.BadWords) ↔ ¬ (AreFresh (texts_of words.now)) }
+    ensures words { (result ≡ Ending.BadWords) ↔ ¬ (AreKnown (texts_of words.now)) }
     ensures unchanged { result ≡ Ending.BadWords → (board.new ≡ board.old) × (source.new ≡ source.old) }
+    ensures format_only { AreFormat (texts_of words.now)
+        → FormatsOnly B.means S.means board.old board.new source.old source.new result }
 
     // What was taken of the text, and what the ending says of it.
     ensures taken { IsTrue (S.means.tells source.old) → S.means.left source.old
         ≡ taken_of (S.means.left source.old) (S.means.left source.new) ++ S.means.left source.new }
-    ensures reading { IsTrue (S.means.tells source.old)
+    ensures reading { AreFresh (texts_of words.now) → IsTrue (S.means.tells source.old)
         → EndsReading (S.means.left source.old) (S.means.left source.new) result }
 
     // What was sent, at the ending and at every moment.
-    ensures sending { IsTrue (S.means.tells source.old)
+    ensures sending { AreFresh (texts_of words.now) → IsTrue (S.means.tells source.old)
         → EndsSending (S.means.left source.old) (S.means.left source.new)
-        (SendsLines B.means board.old board.new) (BreaksIn B.means board.old board.new) result }
+        (LinkSends B.means board.old board.new) (LinkBreaks B.means board.old board.new) result }
     ensures any_moment { TellsLink B.means board.old
         → SendsOnly B.means board.old board.new (MayBeSent (S.means.tells source.old)
         (read_of (S.means.left source.old) (S.means.left source.new)) (B.means.sent board.old (B.means.moment board.old))) }
 
+    // What the flash holds, from before the first octet sent to the ending.
+    ensures holds { result ≢ Ending.BadWords → result ≢ Ending.FlashFault → TellsFlash B.means board.old
+        → HoldsFormat B.means board.old board.new }
+
     // Where an ending comes from, and that no failure is kept quiet.
+    ensures flash_cause { result ≡ Ending.FlashFault
+        → Rose (B.means.counts board.old).flash_faults (B.means.counts board.new).flash_faults }
     ensures link_cause { result ≡ Ending.LinkFault
         → Rose (B.means.counts board.old).link_faults (B.means.counts board.new).link_faults }
     ensures source_cause { result ≡ Ending.SourceFault → Rose (S.means.faults source.old) (S.means.faults source.new) }
-    ensures no_fault { (¬ (result ≡ Ending.LinkFault)
+    ensures no_fault { (result ≢ Ending.FlashFault
+        → (B.means.counts board.new).flash_faults ≡ (B.means.counts board.old).flash_faults)
+        × (result ≢ Ending.LinkFault
         → (B.means.counts board.new).link_faults ≡ (B.means.counts board.old).link_faults)
-        × (¬ (result ≡ Ending.SourceFault) → S.means.faults source.new ≡ S.means.faults source.old) }
+        × (result ≢ Ending.SourceFault → S.means.faults source.new ≡ S.means.faults source.old) }
     ensures complete { AreFresh (texts_of words.now) → IsTrue (S.means.tells source.old)
+        → ¬ (Rose (B.means.counts board.old).flash_faults (B.means.counts board.new).flash_faults)
         → ¬ (Rose (B.means.counts board.old).link_faults (B.means.counts board.new).link_faults)
         → ¬ (Rose (S.means.faults source.old) (S.means.faults source.new))
         → EndsAsTold (S.means.left source.old) result }
 
     // What no session changes, and how often it calls.
-    ensures keeps { Keeps B.means S.means board.old board.new source.old source.new }
+    ensures keeps { KeepsPages B.means S.means board.old board.new source.old source.new }
 {
-    if !are_fresh(words) {
+    let only_formats = are_format(words);
+    if !only_formats && !are_fresh(words) {
         return Ending::BadWords;
     }
-    let Ok(mut lines) = Lines::new(alloc, TEXT_LIMIT) else {
-        return Ending::NoMemory;
+    let Ok(()) = format(board) else {
+        return Ending::FlashFault;
     };
-    let Ok(mut handler) = Handler::new(alloc) else {
-        return Ending::NoMemory;
-    };
-    carry_out_all(alloc, &mut lines, &mut handler, source, board)
+    if only_formats {
+        return Ending::Done;
+    }
+    carry_out_text(alloc, source, board)
 }

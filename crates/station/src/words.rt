@@ -1,6 +1,6 @@
 // The words that the program is called with.
-ghost use Rattle.std.specs.Prelude.{◌≡◌, ◌↔◌, IsTrue};
-ghost use Rattle.station.specs.Words.{AreFresh, blocks_of, device_named, texts_of};
+ghost use Rattle.std.specs.Prelude.{◌≡◌, ◌↔◌, ◌∷◌, [], IsTrue};
+ghost use Rattle.station.specs.Words.{AreFormat, AreFresh, blocks_of, device_named, texts_of};
 
 /// The least number of blocks of a device.
 const LEAST: u32 = 16;
@@ -58,9 +58,23 @@ pub fn device_of(words: &Vec<String>) -> Option<Device>
     None
 }
 
+// Whether the words of a session are this one alone.
+fn is_only(words: &Vec<String>, word: &str) -> bool
+    ensures { IsTrue result ↔ (texts_of words.now ≡ word.now ∷ []) }
+{
+    words.len() == 1 && words[0].as_str() == word
+}
+
 /// Whether the words of a session are `fresh` alone.
 pub fn are_fresh(words: &Vec<String>) -> bool
     ensures { IsTrue result ↔ AreFresh (texts_of words.now) }
 {
-    words.len() == 1 && words[0].as_str() == "fresh"
+    is_only(words, "fresh")
+}
+
+/// Whether they are `format` alone.
+pub fn are_format(words: &Vec<String>) -> bool
+    ensures { IsTrue result ↔ AreFormat (texts_of words.now) }
+{
+    is_only(words, "format")
 }

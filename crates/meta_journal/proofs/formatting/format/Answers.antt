@@ -34,18 +34,24 @@ returns-clause-formatted g c told =
     subst (IsFormatted (means.device old).blocks) (sym (returns-clause-flash g c told))
     (is_formatted (means.device old).blocks (g.met.B.Board.few_blocks old) (means.flash old))
 
-pub returns-clause-holds : goal.returns-clause-holds
-returns-clause-holds g c told image left =
+pub returns-clause-later : goal.returns-clause-later
+returns-clause-later g c told image here =
     let means = g.B.Board.means in
     let old = c.args.board.now in
     let new = c.plant.new.board in
     let blocks = (means.device old).blocks in
     let is = returns-clause-flash g c told in
     let same_a = c.begin_half.ensures.touches.same in
-    let same = c.plant.ensures.touches.same ∙ same_a in
     let rooted : Rooted (first_root blocks) (means.flash new) =
     subst (λ (n : ℕ). Rooted (first_root n) (means.flash new)) c.blocks-blocks.ensures (c.in_ok-plant.ensures.rooted (tells_too same_a told)) in
-    let here : IsImage (means.device new).blocks (means.flash new) image = g.met.B.Board.images_now new image (tells_too same told) left in
     formatted_holds blocks (g.met.B.Board.few_blocks old) (means.flash old) image (g.met.B.Board.enough_blocks old)
     (subst (Rooted (first_root blocks)) is rooted)
-    (subst (λ (f : Flash). IsImage blocks f image) is (subst (λ (d : Device). IsImage d.blocks (means.flash new) image) same here))
+    (subst (λ (f : Flash). IsImage blocks f image) is here)
+
+pub returns-clause-holds : goal.returns-clause-holds
+returns-clause-holds g c told image left =
+    let means = g.B.Board.means in
+    let new = c.plant.new.board in
+    let same = c.plant.ensures.touches.same ∙ c.begin_half.ensures.touches.same in
+    let here : IsImage (means.device new).blocks (means.flash new) image = g.met.B.Board.images_now new image (tells_too same told) left in
+    returns-clause-later g c told image (subst (λ (d : Device). IsImage d.blocks (means.flash new) image) same here)

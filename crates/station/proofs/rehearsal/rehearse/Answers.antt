@@ -1,12 +1,19 @@
-use Rattle.std.proofs.Common.{refl}
-use Rattle.station.proofs.Rehearsals.{rehearsed, untouched}
+use Rattle.std.proofs.Common.{inl, refl}
+use Rattle.station.proofs.Rehearsals.{formatted, rehearsed, untouched}
 use Rattle.station.proofs.rehearsal.rehearse.Goals as goal
 
 pub returns-clause-fresh : goal.returns-clause-fresh
 returns-clause-fresh c fresh =
     let ended = c.station-ending.ensures in
     rehearsed c.args.text.items c.station-ending.result c.args.blocks c.in_ok-board.board c.station-ending.new.board c.new-source.result c.station-ending.new.source c.in_ok-board.ensures c.new-source.ensures
-    (λ bad. ended.words.0 bad fresh) (ended.taken refl) (ended.reading refl) (ended.sending refl) (ended.any_moment refl) (ended.complete fresh refl) ended.keeps
+    (λ bad. ended.words.0 bad (inl fresh)) (ended.taken refl) (ended.reading fresh refl) (ended.sending fresh refl) (ended.any_moment refl)
+    (λ known unfailed. ended.holds known unfailed refl) (ended.complete fresh refl) ended.keeps
+
+pub returns-clause-format : goal.returns-clause-format
+returns-clause-format c only =
+    let ended = c.station-ending.ensures in
+    formatted c.args.text.items c.station-ending.result c.args.blocks c.in_ok-board.board c.station-ending.new.board c.new-source.result c.station-ending.new.source c.in_ok-board.ensures c.new-source.ensures
+    (ended.format_only only) (λ known unfailed. ended.holds known unfailed refl) ended.flash_cause ended.keeps
 
 pub returns-clause-other_words : goal.returns-clause-other_words
 returns-clause-other_words c other =

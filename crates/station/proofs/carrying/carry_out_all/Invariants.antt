@@ -3,7 +3,7 @@ use Rattle.std.specs.Prelude.{IsTrue}
 use Rattle.session_text.specs.Lending.{reader_of}
 use Rattle.handler.specs.Handler.{is_open, table_in}
 use Rattle.station.specs.Session.{Carried, text_limit}
-use Rattle.station.proofs.session.carry_out_all.Given as goal
+use Rattle.station.proofs.carrying.carry_out_all.Given as goal
 
 abbrev pub invariant-commands : goal.invariant-commands
 invariant-commands g l =

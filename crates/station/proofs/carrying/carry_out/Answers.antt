@@ -1,4 +1,4 @@
-use Rattle.station.proofs.session.carry_out.Goals as goal
+use Rattle.station.proofs.carrying.carry_out.Goals as goal
 
 pub returns-in-Arrival-clause-done : goal.returns-in-Arrival-clause-done
 returns-in-Arrival-clause-done g c = rw c.in-Arrival.is c.arrival.ensures.done

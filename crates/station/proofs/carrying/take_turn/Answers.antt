@@ -6,9 +6,9 @@ use Rattle.station.specs.declared.ending.Ending.TheVariants.{NoMemory}
 use Rattle.station.specs.Session.{Ended}
 use Rattle.station.proofs.Answered.{bad_by, carried_by, done_by, link_by, memory_by, source_by}
 use Rattle.station.proofs.Turns.{Asks}
-use Rattle.station.proofs.session.take_turn.Given.{Over}
-use Rattle.station.proofs.session.take_turn.Goals as goal
-use Rattle.station.proofs.session.take_turn.Goals.{After-next_line}
+use Rattle.station.proofs.carrying.take_turn.Given.{Over}
+use Rattle.station.proofs.carrying.take_turn.Goals as goal
+use Rattle.station.proofs.carrying.take_turn.Goals.{After-next_line}
 
 -- what the reader asked of the source
 asks : (g : Over) (c : After-next_line g) → Asks g.S.Source.means c.args.source.now c.next_line.new.source (empty_takes c.next_line.result)

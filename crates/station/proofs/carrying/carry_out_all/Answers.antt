@@ -1,7 +1,7 @@
 use Rattle.std.proofs.Common.{rules}
 use Rattle.handler.proofs.Sendings.{lines_none}
 use Rattle.station.proofs.Turns.{carried_none}
-use Rattle.station.proofs.session.carry_out_all.Goals as goal
+use Rattle.station.proofs.carrying.carry_out_all.Goals as goal
 
 pub commands-init : goal.commands-init
 commands-init g c =
