@@ -1,41 +1,33 @@
 -- What a program printed, of what its device was sent.
-use Rattle.std.proofs.Common.{◌≡◌, ◌≢◌, ◌⊎◌, ℕ, Bool, true, false, List, [], ◌++◌, Some, None, refl, sym, ◌∙◌, ap, subst, arith, inl, inr}
+use Rattle.std.proofs.Common.{◌≡◌, ◌≢◌, ◌⊎◌, ℕ, Bool, true, false, List, [], ◌++◌, Some, None, refl, sym, ◌∙◌, ap, subst, arith, inl, inr, ⊎_elim}
 use Rattle.std.proofs.lemmas.List.{append-nil}
 use Rattle.std.specs.Prelude.{IsTrue, Option, ⊤, length, take, ◌-◌}
 use Rattle.std.specs.Io.KnownBytes.{Appends}
 use Rattle.board.specs.declared.memory.MemBoard.{MemBoard}
 use Rattle.board.specs.Flash.{blank}
 use Rattle.board.specs.Memory.{IsNewBoard, memory_means, moment_of, sent_at}
-use Rattle.board.specs.Moments.{IsPrefixOf, SendsOnly}
-use Rattle.handler.specs.Sending.{BreaksIn, SendsLines}
+use Rattle.board.specs.Moments.{IsPrefixOf, SendsNothing, SendsOnly}
 use Rattle.pst_model.specs.Rules.{Output}
 use Rattle.pst_model.specs.Run.{lines_of}
 use Rattle.station.specs.declared.ending.Ending.{Ending}
-use Rattle.station.specs.declared.ending.Ending.TheVariants.{Done, BadWords, BadLine, LinkFault, SourceFault, NoMemory}
+use Rattle.station.specs.declared.ending.Ending.TheVariants.{Done, BadWords, BadLine, FlashFault, LinkFault, SourceFault, NoMemory}
+use Rattle.station.specs.Promises.{LinkBreaks, LinkSends}
 use Rattle.station.specs.Session.{EndsReading, EndsSending, MayBeSent, lines_for, read_of, taken_of}
-use Rattle.pusstore.specs.Printing.{EndsPrinting}
+use Rattle.pusstore.specs.Printing.{EndsFormat, EndsPrinting, IsOfDevice}
 
 -- a writer that gained nothing
 gains_nothing : (known : Option (List ℕ)) → Appends known known []
 gains_nothing None = tt
 gains_nothing (Some xs) = sym (append-nil xs)
 
--- whether the link failed
-abbrev Unbroken : Ending → Type 0
-Unbroken Done = ⊤
-Unbroken BadWords = ⊤
-Unbroken (BadLine line why) = ⊤
-Unbroken LinkFault = ⊥
-Unbroken SourceFault = ⊤
-Unbroken NoMemory = ⊤
-
-broken_or : (ending : Ending) → (ending ≡ LinkFault) ⊎ (ending ≢ LinkFault)
-broken_or Done = inr (λ is. subst Unbroken is tt)
-broken_or BadWords = inr (λ is. subst Unbroken is tt)
-broken_or (BadLine line why) = inr (λ is. subst Unbroken is tt)
-broken_or LinkFault = inl refl
-broken_or SourceFault = inr (λ is. subst Unbroken is tt)
-broken_or NoMemory = inr (λ is. subst Unbroken is tt)
+device_or : (ending : Ending) → IsOfDevice ending ⊎ (IsOfDevice ending → ⊥)
+device_or Done = inr (λ of. ⊎_elim (λ is. cc) (λ is. cc) of)
+device_or BadWords = inr (λ of. ⊎_elim (λ is. cc) (λ is. cc) of)
+device_or (BadLine line why) = inr (λ of. ⊎_elim (λ is. cc) (λ is. cc) of)
+device_or FlashFault = inl (inl refl)
+device_or LinkFault = inl (inr refl)
+device_or SourceFault = inr (λ of. ⊎_elim (λ is. cc) (λ is. cc) of)
+device_or NoMemory = inr (λ of. ⊎_elim (λ is. cc) (λ is. cc) of)
 
 -- a program that found no memory for its device
 pub prints_none : (text : List ℕ) (known : Option (List ℕ)) → EndsPrinting text known known NoMemory
@@ -50,7 +42,7 @@ prints_none text known = record {
 module _ (text left : List ℕ) (before after : Option (List ℕ)) (blocks : ℕ) (board board' : MemBoard)
     (made : IsNewBoard blocks (λ p. blank) true board) (tells : Bool) (told : IsTrue tells) where
   -- what a new device was sent
-  sent_lines : (outputs : List Output) → SendsLines memory_means board board' outputs
+  sent_lines : (outputs : List Output) → LinkSends memory_means board board' outputs
       → sent_at board' (moment_of board') ≡ lines_of outputs
   sent_lines outputs lines = lines.gained refl ∙ ap (λ (old : List ℕ). old ++ lines_of outputs) made.sent
 
@@ -66,7 +58,7 @@ module _ (text left : List ℕ) (before after : Option (List ℕ)) (blocks : ℕ
 
   -- a program that printed all that its device was sent, and ends as its session did
   prints_as : (ending : Ending) → text ≡ taken_of text left ++ left → EndsReading text left ending
-      → EndsSending text left (SendsLines memory_means board board') (BreaksIn memory_means board board') ending
+      → EndsSending text left (LinkSends memory_means board board') (LinkBreaks memory_means board board') ending
       → SendsOnly memory_means board board' (MayBeSent tells (read_of text left) (sent_at board (moment_of board)))
       → (ending ≡ BadWords → board' ≡ board)
       → Appends before after (sent_at board' (moment_of board')) → EndsPrinting text before after ending
@@ -80,6 +72,8 @@ module _ (text left : List ℕ) (before after : Option (List ℕ)) (blocks : ℕ
     none_bad = reading;
     printed = subst (λ (octets : List ℕ). Appends before after octets) (sent_lines _ sending) printed;
   }
+  prints_as FlashFault taken reading sending moments unchanged printed =
+      subst (λ (octets : List ℕ). Appends before after octets) (sent_lines _ sending) printed
   prints_as LinkFault taken reading sending moments unchanged printed = tt
   prints_as NoMemory taken reading sending moments unchanged printed = record {
     left = left;
@@ -93,10 +87,10 @@ module _ (text left : List ℕ) (before after : Option (List ℕ)) (blocks : ℕ
 
   pub prints : (ending result : Ending) (starved printed : Bool)
       → (printed ≡ false → result ≡ LinkFault)
-      → (printed ≡ true → starved ≡ true → ending ≡ LinkFault → result ≡ NoMemory)
-      → (printed ≡ true → (starved ≡ false) ⊎ (ending ≢ LinkFault) → result ≡ ending)
+      → (printed ≡ true → starved ≡ true → IsOfDevice ending → result ≡ NoMemory)
+      → (printed ≡ true → (starved ≡ false) ⊎ (IsOfDevice ending → ⊥) → result ≡ ending)
       → text ≡ taken_of text left ++ left → EndsReading text left ending
-      → EndsSending text left (SendsLines memory_means board board') (BreaksIn memory_means board board') ending
+      → EndsSending text left (LinkSends memory_means board board') (LinkBreaks memory_means board board') ending
       → SendsOnly memory_means board board' (MayBeSent tells (read_of text left) (sent_at board (moment_of board)))
       → (ending ≡ BadWords → board' ≡ board)
       → (IsTrue printed → Appends before after (sent_at board' (moment_of board'))) → EndsPrinting text before after result
@@ -106,9 +100,47 @@ module _ (text left : List ℕ) (before after : Option (List ℕ)) (blocks : ℕ
       subst (λ (e : Ending). EndsPrinting text before after e) (sym (same refl (inl refl)))
       (prints_as ending taken reading sending moments unchanged (gained refl))
   prints ending result true true unprinted no_memory same taken reading sending moments unchanged gained =
-      elim (broken_or ending) [
+      elim (device_or ending) [
         | inl is ↦ subst (λ (e : Ending). EndsPrinting text before after e) (sym (no_memory refl refl is))
             (record { left = left; taken = taken; front = sent_at board' (moment_of board'); prefix = sent_front moments; printed = gained refl })
         | inr not ↦ subst (λ (e : Ending). EndsPrinting text before after e) (sym (same refl (inr not)))
             (prints_as ending taken reading sending moments unchanged (gained refl))
       ]
+
+module _ (before after : Option (List ℕ)) (blocks : ℕ) (board board' : MemBoard)
+    (made : IsNewBoard blocks (λ p. blank) true board) (unsent : SendsNothing memory_means board board') where
+  ends_format : (ending : Ending) → (ending ≡ Done) ⊎ (ending ≡ FlashFault) ⊎ (ending ≡ NoMemory) → Appends before after []
+      → EndsFormat before after ending
+  ends_format ending is gained = ⊎_elim (λ done. subst (EndsFormat before after) (sym done) gained)
+      (λ others. ⊎_elim (λ failed. subst (EndsFormat before after) (sym failed) gained)
+      (λ starved. subst (EndsFormat before after) (sym starved) gained) others) is
+
+  nothing : Appends before after (sent_at board' (moment_of board')) → Appends before after []
+  nothing gained = subst (λ (octets : List ℕ). Appends before after octets)
+      (unsent.each (moment_of board') unsent.later (omega arith) ∙ made.sent) gained
+
+  pub prints_format : (ending result : Ending) (starved printed : Bool)
+      → (printed ≡ false → result ≡ LinkFault)
+      → (printed ≡ true → starved ≡ true → IsOfDevice ending → result ≡ NoMemory)
+      → (printed ≡ true → (starved ≡ false) ⊎ (IsOfDevice ending → ⊥) → result ≡ ending)
+      → (ending ≡ Done) ⊎ (ending ≡ FlashFault)
+      → (IsTrue printed → Appends before after (sent_at board' (moment_of board'))) → EndsFormat before after result
+  prints_format ending result starved false unprinted no_memory same ends gained =
+      subst (λ (e : Ending). EndsFormat before after e) (sym (unprinted refl)) tt
+  prints_format ending result false true unprinted no_memory same ends gained =
+      ends_format result (⊎_elim (λ done. inl (same refl (inl refl) ∙ done)) (λ failed. inr (inl (same refl (inl refl) ∙ failed))) ends) (nothing (gained refl))
+  prints_format ending result true true unprinted no_memory same ends gained =
+      ends_format result
+      (⊎_elim (λ done. inl (same refl (inr (λ of. ⊎_elim (λ is. two (sym done ∙ is)) (λ is. three (sym done ∙ is)) of)) ∙ done))
+      (λ failed. inr (inr (no_memory refl refl (inl failed)))) ends)
+      (nothing (gained refl))
+    where
+      two : Done ≡ FlashFault → ⊥
+      two is = absurd cc
+
+      three : Done ≡ LinkFault → ⊥
+      three is = absurd cc
+
+-- a format that found no memory for its device
+pub formats_none : (known : Option (List ℕ)) → EndsFormat known known NoMemory
+formats_none known = gains_nothing known

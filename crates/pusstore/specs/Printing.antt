@@ -1,10 +1,10 @@
 -- What a session prints of its text.
-use Rattle.std.specs.Prelude.{◌≡◌, ◌++◌, ℕ, List, [], Option, Some, None, ⊤}
+use Rattle.std.specs.Prelude.{◌≡◌, ◌⊎◌, ◌++◌, ℕ, List, [], Option, Some, None, ⊤}
 use Rattle.std.specs.Io.KnownBytes.{Appends}
 use Rattle.board.specs.Moments.{IsPrefixOf}
 use Rattle.pst_model.specs.Text.{bad_read, commands_of, first_bad}
 use Rattle.station.specs.declared.ending.Ending.{Ending}
-use Rattle.station.specs.declared.ending.Ending.TheVariants.{Done, BadWords, BadLine, LinkFault, SourceFault, NoMemory}
+use Rattle.station.specs.declared.ending.Ending.TheVariants.{Done, BadWords, BadLine, FlashFault, LinkFault, SourceFault, NoMemory}
 use Rattle.station.specs.Session.{EndsReading, lines_for, read_of, taken_of, text_limit}
 
 -- The writer gained a front of the lines for the commands read, where these octets of the text are left.
@@ -24,7 +24,7 @@ pub record PrintsRead (text : List ℕ) (before after : Option (List ℕ)) : Typ
 
 -- What the ending of a program says of its text, and of what its writer gained: all lines for the text, those for the
 -- commands before its first bad line, or those for the commands read; a front of these for want of memory; and nothing
--- where the words are not known. At LinkFault the writer may hold anything.
+-- where the flash failed or the words are not known. At LinkFault the writer may hold anything.
 abbrev pub EndsPrinting : (text : List ℕ) → (before after : Option (List ℕ)) → Ending → Type 0
 EndsPrinting text before after Done =
     (first_bad text_limit text ≡ None) × Appends before after (lines_for (commands_of text_limit text))
@@ -33,7 +33,20 @@ EndsPrinting text before after (BadLine line why) =
 EndsPrinting text before after SourceFault = PrintsRead text before after
 EndsPrinting text before after NoMemory = PrintsFront text before after
 EndsPrinting text before after LinkFault = ⊤
+EndsPrinting text before after FlashFault = Appends before after []
 EndsPrinting text before after BadWords = Appends before after []
+
+-- A format prints nothing. At LinkFault the writer may hold anything.
+abbrev pub EndsFormat : (before after : Option (List ℕ)) → Ending → Type 0
+EndsFormat before after Done = Appends before after []
+EndsFormat before after FlashFault = Appends before after []
+EndsFormat before after NoMemory = Appends before after []
+EndsFormat before after LinkFault = ⊤
+EndsFormat before after _ = ⊥
+
+-- a call of the device failed
+abbrev pub IsOfDevice : Ending → Type 0
+IsOfDevice ending = (ending ≡ FlashFault) ⊎ (ending ≡ LinkFault)
 
 -- What a session says of the text that it was to read, whatever is known of its output: what was taken of it, and what
 -- its ending says of that.

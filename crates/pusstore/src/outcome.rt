@@ -1,7 +1,8 @@
 // What a session on a device in memory comes to: its output is printed when it has ended.
-ghost use Rattle.std.specs.Prelude.{◌≡◌, ◌≢◌, ◌⊎◌, true, false, IsTrue};
+ghost use Rattle.std.specs.Prelude.{◌≡◌, ◌⊎◌, true, false, IsTrue};
 ghost use Rattle.std.specs.Io.KnownBytes.{Appends};
 ghost use Rattle.board.specs.Memory.{moment_of, sent_at};
+ghost use Rattle.pusstore.specs.Printing.{IsOfDevice};
 
 use board::MemBoard;
 use station::Ending;
@@ -19,14 +20,13 @@ pub fn print_sent<W: Write>(output: &mut W, board: &MemBoard) -> bool
 /// output was printed.
 pub fn outcome(ending: Ending, starved: bool, printed: bool) -> Ending
     ensures unprinted { printed ≡ false → result ≡ Ending.LinkFault }
-    ensures no_memory { printed ≡ true → starved ≡ true → ending ≡ Ending.LinkFault
+    ensures no_memory { printed ≡ true → starved ≡ true → IsOfDevice ending
         → result ≡ Ending.NoMemory }
-    ensures same { printed ≡ true → (starved ≡ false) ⊎ (ending ≢ Ending.LinkFault)
-        → result ≡ ending }
+    ensures same { printed ≡ true → (starved ≡ false) ⊎ ¬ (IsOfDevice ending) → result ≡ ending }
 {
     match ending {
         _ if !printed => Ending::LinkFault,
-        Ending::LinkFault if starved => Ending::NoMemory,
+        Ending::LinkFault | Ending::FlashFault if starved => Ending::NoMemory,
         ending => ending,
     }
 }

@@ -53,6 +53,7 @@ impl fmt::Display for Report {
             Report::Session(Ending::BadLine { line, why }) => {
                 write!(f, "pusstore: line {line}: {why}")
             }
+            Report::Session(Ending::FlashFault) => f.write_str("pusstore: flash fault"),
             Report::Session(Ending::LinkFault) => f.write_str("pusstore: link fault"),
             Report::Session(Ending::SourceFault) => f.write_str("pusstore: source fault"),
             Report::Session(Ending::NoMemory) => f.write_str("pusstore: no memory"),

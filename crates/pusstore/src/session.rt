@@ -4,8 +4,8 @@ ghost use Rattle.std.specs.Prelude.{◌≡◌, ◌≢◌, ◌≤◌, ◌↔◌, 
 ghost use Rattle.board.specs.Counts.{Rose};
 ghost use Rattle.image_board.specs.FileBoard.{counts_of};
 ghost use Rattle.image_board.specs.Reading.{octets_left};
-ghost use Rattle.station.specs.Words.{AreFresh, texts_of};
-ghost use Rattle.pusstore.specs.Printing.{EndsPrinting, EndsTaking};
+ghost use Rattle.station.specs.Words.{AreFormat, AreKnown, texts_of};
+ghost use Rattle.pusstore.specs.Printing.{EndsFormat, EndsPrinting, EndsTaking};
 
 use crate::outcome::{outcome, print_sent};
 use board::MemBoard;
@@ -25,8 +25,10 @@ pub fn session<R: Reader + Drop, W: Write>(
 ) -> Ending
     requires least { 16 ≤ blocks }
     requires most { blocks ≤ 512 }
-    ensures words { AreFresh (texts_of words.now) → result ≢ Ending.BadWords }
-    ensures prints { IsTrue R.tells → EndsPrinting (octets_left (R.remaining input))
+    ensures words { AreKnown (texts_of words.now) → result ≢ Ending.BadWords }
+    ensures format { AreFormat (texts_of words.now)
+        → EndsFormat (W.contents output.old) (W.contents output.new) result }
+    ensures prints { ¬ (AreFormat (texts_of words.now)) → IsTrue R.tells → EndsPrinting (octets_left (R.remaining input))
         (W.contents output.old) (W.contents output.new) result }
 {
     let Ok(mut board) = MemBoard::new(alloc, blocks) else {
@@ -46,13 +48,17 @@ pub fn file_session<R: Reader + Drop, W: Write>(
     input: R,
     board: &mut FileBoard<W>,
 ) -> Ending
-    ensures words { (result ≡ Ending.BadWords) ↔ ¬ (AreFresh (texts_of words.now)) }
+    ensures words { (result ≡ Ending.BadWords) ↔ ¬ (AreKnown (texts_of words.now)) }
     ensures unchanged { result ≡ Ending.BadWords → board.new ≡ board.old }
-    ensures reading { IsTrue R.tells → EndsTaking (octets_left (R.remaining input)) result }
+    ensures reading { ¬ (AreFormat (texts_of words.now)) → IsTrue R.tells → EndsTaking (octets_left (R.remaining input)) result }
+    ensures flash_cause { result ≡ Ending.FlashFault
+        → Rose (counts_of board.old).flash_faults (counts_of board.new).flash_faults }
     ensures link_cause { result ≡ Ending.LinkFault
         → Rose (counts_of board.old).link_faults (counts_of board.new).link_faults }
-    ensures no_fault { result ≢ Ending.LinkFault
-        → (counts_of board.new).link_faults ≡ (counts_of board.old).link_faults }
+    ensures no_fault { (result ≢ Ending.FlashFault
+        → (counts_of board.new).flash_faults ≡ (counts_of board.old).flash_faults)
+        × (result ≢ Ending.LinkFault
+        → (counts_of board.new).link_faults ≡ (counts_of board.old).link_faults) }
 {
     let mut source = StdSource::new(input);
     station(alloc, words, &mut source, board)

@@ -31,11 +31,11 @@ pub fn station<B: Board, S: Source>(
     // What was taken of the text, and what the ending says of it.
     ensures taken { IsTrue (S.means.tells source.old) → S.means.left source.old
         ≡ taken_of (S.means.left source.old) (S.means.left source.new) ++ S.means.left source.new }
-    ensures reading { AreFresh (texts_of words.now) → IsTrue (S.means.tells source.old)
+    ensures reading { ¬ (AreFormat (texts_of words.now)) → IsTrue (S.means.tells source.old)
         → EndsReading (S.means.left source.old) (S.means.left source.new) result }
 
     // What was sent, at the ending and at every moment.
-    ensures sending { AreFresh (texts_of words.now) → IsTrue (S.means.tells source.old)
+    ensures sending { ¬ (AreFormat (texts_of words.now)) → IsTrue (S.means.tells source.old)
         → EndsSending (S.means.left source.old) (S.means.left source.new)
         (LinkSends B.means board.old board.new) (LinkBreaks B.means board.old board.new) result }
     ensures any_moment { TellsLink B.means board.old

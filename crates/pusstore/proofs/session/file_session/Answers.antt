@@ -4,10 +4,10 @@ use Rattle.pusstore.specs.Printing.{EndsTaking}
 use Rattle.pusstore.proofs.session.file_session.Goals as goal
 
 pub returns-clause-reading : goal.returns-clause-reading
-returns-clause-reading g c told =
+returns-clause-reading g c other told =
     let same = ap (λ (input : g.row.R.Denot). octets_left (g.R.Read.remaining input)) c.new-source.ensures.input in
     subst (λ (text : List ℕ). EndsTaking text c.station.result) same (record {
       left = octets_left (g.R.Read.remaining c.station.new.source.input);
       taken = c.station.ensures.taken told;
-      reading = c.station.ensures.reading told;
+      reading = c.station.ensures.reading other told;
     })
