@@ -1,5 +1,5 @@
 // A board whose link breaks within a send. It tells what it sent, and keeps how much each send sent. It
-// has no flash that works: each call of it fails.
+// does not tell its flash, which takes what is written and keeps nothing: each read of it fails.
 ghost use Rattle.std.specs.Prelude.{◌≡◌, ◌≤◌, ◌<◌, ◌++◌, ◌∷◌, [], if◌then◌else◌, length, sum, IsTrue, OnOk, OnErr};
 ghost use Rattle.board.specs.Counts.{Rose};
 ghost use Rattle.trials.specs.Half.{half_of};
@@ -129,18 +129,15 @@ impl Board for HalfBoard {
     }
 
     fn program(&mut self, _block: u32, _page: u32, _from: &[u8]) -> Result<(), Failed> {
-        self.flash_faults = self.flash_faults.saturating_add(1);
-        Err(Failed)
+        Ok(())
     }
 
     fn erase(&mut self, _block: u32) -> Result<(), Failed> {
-        self.flash_faults = self.flash_faults.saturating_add(1);
-        Err(Failed)
+        Ok(())
     }
 
     fn barrier(&mut self) -> Result<(), Failed> {
-        self.flash_faults = self.flash_faults.saturating_add(1);
-        Err(Failed)
+        Ok(())
     }
 
     fn send(&mut self, bytes: &[u8]) -> Result<(), Failed>

@@ -11,8 +11,8 @@ mod requests;
 mod shown;
 mod worked;
 
+use crate::half_board::HalfBoard;
 use crate::short_source::ShortSource;
-use board::MemBoard;
 use station::{Ending, station};
 use std::alloc::{AllocError, Global};
 use std::test::Fail;
@@ -66,7 +66,7 @@ fn session(
 ) -> Result<(Ending, Vec<u8>), AllocError>
     requires { 0 < most }
 {
-    let mut board = MemBoard::new(alloc, 16)?;
+    let mut board = HalfBoard::new(alloc, 16);
     let mut source = ShortSource::new(text.to_vec(alloc)?, most);
     if let Some(number) = failing {
         source.plan(number);

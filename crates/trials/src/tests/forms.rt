@@ -1,6 +1,6 @@
 // Lines of no known form. Each one ends the session where it stands.
 
-use super::{MOSTS, digits_of, session};
+use super::{digits_of, session};
 use session_text::LineFault;
 use station::Ending;
 use std::alloc::{AllocError, Global};
@@ -181,7 +181,7 @@ fn ends_the_session(
             push_line(&mut sent, b"1 P\n", &digits)?;
             number = 3;
         }
-        for most in MOSTS {
+        for most in [1, 4096] {
             let (ending, output) = session(alloc, &text, most, None)?;
             let bad = Ending::BadLine {
                 line: number,
