@@ -12,8 +12,9 @@ ghost use Rattle.board.specs.Meaning.{TellsFlash};
 ghost use Rattle.board.specs.Touches.{Touches};
 ghost use Rattle.store_directory.specs.Format.{first_directory};
 ghost use Rattle.meta_journal.specs.Directories.{directory_of};
-ghost use Rattle.meta_journal.specs.Formats.{IsFormatted, after_format};
-ghost use Rattle.meta_journal.specs.Halves.{format_pages};
+ghost use Rattle.meta_journal.specs.Formats.{IsFormatted, after_format, first_pages};
+ghost use Rattle.meta_journal.specs.Halves.{first_root, format_pages};
+ghost use Rattle.meta_journal.specs.Journals.{IsJournal};
 
 use crate::half::begin_half;
 use board::{Board, Failed};
@@ -36,6 +37,11 @@ pub fn format<B: Board>(board: &mut B) -> Result<(), Failed>
         board.new (B.means.moment board.new) (B.means.flash board.new).content) }
     ensures formatted { OnOk result (TellsFlash B.means board.old
         → IsFormatted (B.means.device board.old).blocks (B.means.flash board.new)) }
+
+    // The journal begins: its half holds the directory, and has no entry.
+    ensures journal { OnOk result (TellsFlash B.means board.old
+        → IsJournal (B.means.device board.old).blocks (first_root (B.means.device board.old).blocks)
+        first_directory (first_pages (B.means.device board.old).blocks) (B.means.flash board.new)) }
 
     // From `Ok` on each image holds the directory of a format.
     ensures holds { OnOk result (TellsFlash B.means board.old

@@ -1,17 +1,21 @@
 //! The journal of a directory: the directory that an image holds, and the format that begins it.
 #![tactic(auto)]
 
+mod committing;
 mod formatting;
 mod half;
 mod laws;
 mod reading;
+mod switching;
 
+pub use committing::commit;
 pub use formatting::format;
 pub use laws::{
     advancing_keeps_the_directory, other_pages_may_hold_anything, repairing_keeps_the_directory,
     rooted_images_hold_the_directory,
 };
 pub use reading::checkpoint_of;
+pub use switching::switch;
 
 #[cfg(test)]
 mod tests;
