@@ -135,5 +135,6 @@ pub fn switch<B: Board>(
         (Rose (B.means.counts board.old).flash_faults (B.means.counts board.new).flash_faults) }
 {
     unite(board, votes, root)?;
-    turn(board, root, checkpoint)
+    let to = turn(board, root, checkpoint)?;
+    Ok(to)
 }
