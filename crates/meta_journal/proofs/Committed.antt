@@ -7,6 +7,7 @@ use Rattle.commit_gate.specs.Entries.{Entry, HasEntries, area_of, length_in, oct
 use Rattle.commit_gate.proofs.AreaEntries.{at_le, lawful_fits, stood_text, text_stood}
 use Rattle.commit_gate.proofs.AreaPages.{area_same, octets_same}
 use Rattle.commit_gate.proofs.EntriesRead.{entries_read}
+use Rattle.commit_gate.proofs.Images.{image_stands}
 use Rattle.root_vote.specs.declared.root.Root.{Root}
 use Rattle.root_vote.specs.declared.votes.Choice.TheVariants.{Agreed}
 use Rattle.root_vote.specs.Roots.{choice_of, root_in}
@@ -73,6 +74,13 @@ module _ (blocks : ℕ) (flash : Flash) (root : Root) (d : Directory) (at : ℕ)
 
       half : directory_in blocks (area_of base image) ≡ directory_by blocks journal.text these
       half = half_reads blocks (area_of base image) journal.text journal.start these text (entries_read (area_of base image) journal.start these end has)
+
+  -- each image holds the directory of the journal
+  pub journal_holds : (image : ℕ → List ℕ) → IsImage blocks flash image → Holds blocks d image
+  journal_holds image is = holds_these image journal.entries at d
+      (λ k lt. is.firm_pages (256 * k) (omega arith) (journal.rooted.firm_roots k lt))
+      (λ q lt. is.firm_pages (base + q) (omega arith) (journal.is_firm (base + q) (omega arith)))
+      (image_stands blocks flash base journal.start journal.entries at (omega arith) journal.stands image is) journal.holds
 
   module _ (entry : List ℕ) (after : Directory) (more : fold_entry d entry ≡ Some after) where
     root_out : (k : ℕ) → k < 3 → entry_pages base at entry (256 * k) ≡ false

@@ -35,4 +35,6 @@ pub use row::Row;
 #[cfg(test)]
 mod checkpoint_tests;
 #[cfg(test)]
+mod format_tests;
+#[cfg(test)]
 mod text_tests;
