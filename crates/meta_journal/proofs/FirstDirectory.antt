@@ -20,7 +20,7 @@ use Rattle.store_directory.specs.Options.{◌>>=◌, given}
 use Rattle.store_directory.proofs.FirstCheckpoints.{length-first}
 use Rattle.store_directory.proofs.WrittenCheckpoints.{checkpoint_in-octets}
 use Rattle.meta_journal.specs.Directories.{directory_by}
-use Rattle.meta_journal.specs.Formats.{first_text}
+use Rattle.meta_journal.specs.Formats.{first_pages, first_text}
 
 row_fits : FitsRow first_row
 row_fits = record {
@@ -85,3 +85,7 @@ first_short blocks most = (omega (arith, length-first blocks), omega (arith, len
 pub front_written : (old new ys : List ℕ) (n : ℕ) → Writes old new 0 ys → n ≡ length ys → take n new ≡ ys
 front_written old new ys n written is =
     (λ i. take (is i) (Writes-at_front written i)) ∙ take-append_seam ys (drop (length ys) old)
+
+-- the checkpoint of 16 blocks fills one page
+pub first_page_alone : (blocks : ℕ) → blocks ≡ 16 → first_pages blocks ≡ 1
+first_page_alone blocks is = omega (arith, length-first blocks)

@@ -1,6 +1,6 @@
 // What no clause says: that a switch and a commit succeed on a device that does not fail, and what is
 // read of the halves after each stop.
-ghost use Rattle.std.specs.Prelude.{◌≤◌};
+ghost use Rattle.std.specs.Prelude.{◌≡◌};
 
 use crate::committing::commit;
 use crate::formatting::format;
@@ -68,7 +68,9 @@ fn switch_by<B: Board>(board: &mut B, checkpoint: &[u8; 300]) -> Result<Option<R
     }
 }
 
-fn root(generation: u64) -> Root {
+fn root(generation: u64) -> Root
+    ensures { result.generation ≡ generation }
+{
     Root {
         generation,
         blocks: 16,

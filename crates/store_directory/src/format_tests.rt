@@ -18,9 +18,9 @@ const FRONT: [u8; 47] = [
 fn a_first_checkpoint_has_47_octets_and_four_for_each_block(rt: HostRuntime) {
     let mut out = [7; 120];
     assert_eq!(rt; write_first_checkpoint(16, &mut out), 111);
-    assert!(rt; &out[..47] == FRONT.as_slice());
-    assert!(rt; &out[47..111] == [0; 64].as_slice());
-    assert!(rt; &out[111..] == [7; 9].as_slice());
+    assert!(rt; out.starts_with(&FRONT));
+    assert!(rt; out.iter().skip(47).take(64).all(|octet| *octet == 0));
+    assert!(rt; out.iter().skip(111).all(|octet| *octet == 7));
 }
 
 const ROW: Row = Row {
