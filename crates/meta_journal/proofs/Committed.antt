@@ -1,5 +1,5 @@
 -- What each image of a commit holds.
-use Rattle.std.proofs.Common.{◌≡◌, inl, inr, ℕ, ◌+◌, ◌*◌, ◌%◌, ◌<◌, ◌≤◌, true, false, List, [], ◌∷◌, ◌++◌, Option, Some, unwrap_or, length, refl, sym, ◌∙◌, ap, subst, arith}
+use Rattle.std.proofs.Common.{◌≡◌, inl, inr, ℕ, ◌+◌, ◌*◌, ◌<◌, ◌≤◌, false, List, [], ◌∷◌, ◌++◌, Option, Some, unwrap_or, length, ◌∙◌, ap, arith}
 use Rattle.board.specs.Flash.{Flash, IsImage}
 use Rattle.board.proofs.Pages.{below_pages}
 use Rattle.commit_gate.specs.Commits.{IsBeforeOrAfter, IsCleanFrom, Stands, entry_pages, with_entry}
@@ -18,7 +18,7 @@ use Rattle.store_directory.specs.Directory.{Directory}
 use Rattle.store_directory.specs.Folds.{fold_entries, fold_entry}
 use Rattle.store_directory.specs.Options.{◌>>=◌}
 use Rattle.store_directory.proofs.Steps.{some_then}
-use Rattle.meta_journal.specs.Directories.{directory_by, directory_in, half_area}
+use Rattle.meta_journal.specs.Directories.{directory_by, directory_in}
 use Rattle.meta_journal.specs.Halves.{half_base, half_of}
 use Rattle.meta_journal.specs.Journals.{Holds, HoldsEither, IsJournal}
 use Rattle.meta_journal.proofs.Filled.{half_reads}

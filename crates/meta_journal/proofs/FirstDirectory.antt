@@ -1,21 +1,19 @@
 -- The checkpoint of a format gives its directory.
-use Rattle.std.proofs.Common.{◌≡◌, ℕ, ◌+◌, ◌*◌, ◌^◌, ◌<◌, ◌≤◌, true, List, [], ◌∷◌, Option, Some, All, length, take, drop, replicate, refl, ◌∙◌, ap, subst, arith}
+use Rattle.std.proofs.Common.{◌≡◌, ℕ, ◌^◌, ◌<◌, ◌≤◌, true, List, [], ◌∷◌, Option, Some, All, length, take, drop, replicate, refl, ◌∙◌, ap, subst, arith}
 use Rattle.std.proofs.lemmas.List.{length-replicate}
 use Rattle.std.proofs.lemmas.List.Elements.{All-replicate}
 use Rattle.std.proofs.Math.Seq.{take-append_seam}
 use Rattle.octet_fields.specs.Fields.{Writes}
 use Rattle.octet_fields.proofs.Splices.{Writes-at_front}
-use Rattle.control_defs.specs.PatternOctets.{spelled_pattern}
 use Rattle.store_directory.specs.Changes.{apply}
-use Rattle.store_directory.specs.Checkpoints.{Checkpoint, checkpoint_in, checkpoint_octets, is_lawful, read_checkpoint}
-use Rattle.store_directory.specs.Directory.{Directory, FitsLink}
+use Rattle.store_directory.specs.Checkpoints.{Checkpoint, checkpoint_in, is_lawful, read_checkpoint}
+use Rattle.store_directory.specs.Directory.{FitsLink}
 use Rattle.store_directory.specs.Fitting.{FitPatterns, FitsDirectory, FitsListed}
 use Rattle.store_directory.specs.Format.{first_directory, first_row, first_store}
 use Rattle.store_directory.specs.Rows.{FitsRow}
 use Rattle.control_defs.specs.Patterns.{IsPattern}
 use Rattle.control_defs.specs.declared.patterns.Pattern.{Pattern}
 use Rattle.control_defs.specs.declared.patterns.Pattern.TheVariants.{Every}
-use Rattle.record_view.specs.declared.link.Link.{Link}
 use Rattle.store_directory.specs.Options.{◌>>=◌, given}
 use Rattle.store_directory.proofs.FirstCheckpoints.{length-first}
 use Rattle.store_directory.proofs.WrittenCheckpoints.{checkpoint_in-octets}

@@ -79,9 +79,11 @@ module _ (blocks : ℕ) (flash : Flash) (d : Directory) (enough : 16 ≤ blocks)
 
     -- while the other half is erased and written
     pub filling_holds : (image : ℕ → List ℕ) → IsImage blocks (loosened (half_pages (half_base (half_of to))) flash) image → Holds blocks d image
-    filling_holds image is = image_holds blocks d image (Agreed root) agreed
-        (before.0, half_same blocks (half_of root) flash.content image
-        (λ q lt. left (half_base (half_of root) + q) (omega arith) (half_apart (half_of to) (half_of root) q parity lt)) ∙ before.1)
+    filling_holds image is = image_holds blocks d image (Agreed root) agreed (
+      before.0,
+      half_same blocks (half_of root) flash.content image
+          (λ q lt. left (half_base (half_of root) + q) (omega arith) (half_apart (half_of to) (half_of root) q parity lt)) ∙ before.1,
+    )
       where
         left : (p : ℕ) → p < 1792 → half_pages (half_base (half_of to)) p ≡ false → image p ≡ flash.content p
         left p within out = page_left blocks (half_pages (half_base (half_of to))) flash image p (omega arith) out (still p within) is

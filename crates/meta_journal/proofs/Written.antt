@@ -1,5 +1,5 @@
 -- The flash behind a checkpoint and the roots that name its half.
-use Rattle.std.proofs.Common.{◌≡◌, ℕ, ◌+◌, ◌*◌, ◌%◌, ◌<◌, ◌≤◌, true, false, List, [], Some, length, refl, ◌∙◌, ap, arith}
+use Rattle.std.proofs.Common.{◌≡◌, ℕ, ◌+◌, ◌*◌, ◌<◌, ◌≤◌, true, false, List, [], Some, length, refl, ◌∙◌, ap, arith}
 use Rattle.board.specs.Flash.{Flash}
 use Rattle.board.proofs.Pages.{above_pages, below_pages}
 use Rattle.commit_gate.specs.Entries.{payload_pages}

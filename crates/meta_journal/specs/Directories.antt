@@ -1,5 +1,5 @@
 -- The directory that an image holds.
-use Rattle.std.specs.Prelude.{◌≡◌, ℕ, ◌+◌, ◌*◌, ◌%◌, ◌<◌, Bool, true, false, ◌&&◌, ◌==◌, List, Option, Some, None}
+use Rattle.std.specs.Prelude.{◌≡◌, ℕ, ◌+◌, ◌*◌, ◌<◌, Bool, true, false, ◌&&◌, ◌==◌, List, Option, Some, None}
 use Rattle.board.specs.Flash.{Flash}
 use Rattle.commit_gate.specs.Entries.{Damaged, End, Entry, EntryAt, area_of, entries_from, text_at}
 use Rattle.root_vote.specs.declared.root.Root.{Root}

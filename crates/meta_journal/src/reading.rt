@@ -27,7 +27,7 @@ pub fn checkpoint_of<'a, B: Board>(
     ensures checkpoint { IfOk result (λ found. TellsFlash B.means board.old → MatchOption found
         (HasNoCheckpoint (area_of (256 * area.first) (B.means.flash board.old).content))
         (λ read. text_at 20476 (area_of (256 * area.first) (B.means.flash board.old).content) 0
-            ≡ Entry read.0.now read.1)) }
+        ≡ Entry read.0.now read.1)) }
     ensures range { IfOk result (λ found. IfSome found (λ read. (1 ≤ length read.0.now)
         × (length read.0.now ≤ 20476) × (read.1 ≡ payload_pages (length read.0.now)))) }
     ensures reads { ReadsOnly B.means 80 board.old board.new }

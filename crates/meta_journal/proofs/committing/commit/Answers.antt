@@ -1,4 +1,4 @@
-use Rattle.std.proofs.Common.{◌≡◌, ℕ, ◌+◌, ◌*◌, ◌≤◌, List, [], ◌∷◌, ◌++◌, Some, length, subst, arith}
+use Rattle.std.proofs.Common.{◌≡◌, ℕ, ◌+◌, ◌*◌, List, [], ◌∷◌, ◌++◌, Some, length, subst, arith}
 use Rattle.board.specs.Meaning.{TellsFlash}
 use Rattle.board.specs.Moments.{LeavesOnly}
 use Rattle.board.specs.Touches.{KeptElsewhere}
@@ -7,7 +7,7 @@ use Rattle.commit_gate.specs.Commits.{IsBeforeOrAfter, IsCleanFrom, Stands, entr
 use Rattle.commit_gate.specs.Entries.{payload_pages}
 use Rattle.store_directory.specs.Directory.{Directory}
 use Rattle.store_directory.specs.Folds.{fold_entry}
-use Rattle.meta_journal.specs.Halves.{half_base, half_block, half_of}
+use Rattle.meta_journal.specs.Halves.{half_base, half_of}
 use Rattle.meta_journal.specs.Journals.{HoldsEither, IsJournal}
 use Rattle.meta_journal.proofs.Committed.{commit_holds, journal_more}
 use Rattle.meta_journal.proofs.committing.commit.Given.{Over}

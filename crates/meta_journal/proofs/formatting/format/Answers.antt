@@ -1,18 +1,15 @@
 use Rattle.std.proofs.Common.{◌≡◌, ℕ, List, refl, sym, ◌∙◌, ap, subst, arith, eq-eqb, take}
 use Rattle.board.specs.Device.{Device}
 use Rattle.board.specs.Flash.{Flash, IsImage}
-use Rattle.board.specs.Meaning.{TellsFlash}
 use Rattle.board.proofs.Works.{tells_too}
-use Rattle.root_vote.specs.declared.root.Root.{Root}
 use Rattle.root_vote.specs.Rooted.{Rooted, with_roots}
-use Rattle.meta_journal.specs.Formats.{IsFormatted, after_format, first_pages, first_text}
+use Rattle.meta_journal.specs.Formats.{IsFormatted, first_pages, first_text}
 use Rattle.meta_journal.specs.Halves.{first_root, half_block, with_checkpoint}
 use Rattle.store_directory.specs.Format.{first_directory}
 use Rattle.meta_journal.specs.Journals.{IsJournal}
 use Rattle.meta_journal.proofs.FirstDirectory.{first_held, first_short, front_written}
 use Rattle.meta_journal.proofs.Written.{is_journal}
 use Rattle.meta_journal.proofs.Formatted.{formatted_holds, is_formatted}
-use Rattle.meta_journal.proofs.formatting.format.Given.{Over}
 use Rattle.meta_journal.proofs.formatting.format.Goals as goal
 use Rattle.meta_journal.proofs.formatting.format.Goals.{In_ok-plant}
 

@@ -1,4 +1,4 @@
-use Rattle.std.proofs.Common.{◌≡◌, ℕ, ◌+◌, ◌*◌, refl, arith}
+use Rattle.std.proofs.Common.{◌+◌, ◌*◌, refl, arith}
 use Rattle.board.specs.Flash.{pages_of_block}
 use Rattle.board.specs.Touches.{Touches, no_page}
 use Rattle.board.proofs.Touching as touching

@@ -1,9 +1,8 @@
-use Rattle.std.proofs.Common.{◌≡◌, ℕ, ◌+◌, ◌*◌, ◌%◌, ◌≤◌, ap, subst, arith}
+use Rattle.std.proofs.Common.{◌≡◌, ℕ, ◌+◌, ◌*◌, ◌%◌, ap, subst, arith}
 use Rattle.board.specs.Device.{Device}
 use Rattle.board.specs.Flash.{IsClean}
 use Rattle.board.specs.Memory.{flash_of}
 use Rattle.meta_journal.specs.Halves.{half_base}
-use Rattle.meta_journal.specs.Formats.{first_pages}
 use Rattle.meta_journal.proofs.FirstDirectory.{first_page_alone}
 use Rattle.meta_journal.proofs.journal_tests.a_stop_in_a_commit_leaves_the_entry_or_not.Goals as goal
 
