@@ -10,8 +10,8 @@ use std::test::Fail;
 
 // The time, the reports, no forward pattern, one store with its row, one pattern and no link.
 const FRONT: [u8; 47] = [
-    0, 0, 0, 0, 0, 0, 0, 0, 0, 1, 0, 1, 0, 0, 0, 0, 64, 1, 3, 0, 0, 0, 0, 0, 0, 0, 0, 0, 0, 0, 0, 0,
-    0, 0, 0, 0, 0, 0, 0, 1, 0, 0, 0, 0, 0, 0, 0,
+    0, 0, 0, 0, 0, 0, 0, 0, 0, 1, 0, 1, 0, 0, 0, 0, 64, 1, 3, 0, 0, 0, 0, 0, 0, 0, 0, 0, 0, 0, 0,
+    0, 0, 0, 0, 0, 0, 0, 0, 1, 0, 0, 0, 0, 0, 0, 0,
 ];
 
 #[test]
@@ -43,13 +43,29 @@ fn directories_are_the_same_by_what_they_hold(rt: HostRuntime) -> Result<(), Fai
     let mut one = Directory::new(alloc)?;
     let mut other = Directory::new(alloc)?;
     let changes = [
-        Change::Clock { now: 16, reports: 1 },
-        Change::Forward { add: true, pattern: Pattern::App(5) },
+        Change::Clock {
+            now: 16,
+            reports: 1,
+        },
+        Change::Forward {
+            add: true,
+            pattern: Pattern::App(5),
+        },
         Change::Put(ROW),
-        Change::Types { store: 1, add: true, pattern: Pattern::Every },
+        Change::Types {
+            store: 1,
+            add: true,
+            pattern: Pattern::Every,
+        },
         Change::Put(Row { told: true, ..ROW }),
-        Change::Put(Row { range: Some((0, 1)), ..ROW }),
-        Change::Put(Row { identifier: 2, ..ROW }),
+        Change::Put(Row {
+            range: Some((0, 1)),
+            ..ROW
+        }),
+        Change::Put(Row {
+            identifier: 2,
+            ..ROW
+        }),
     ];
     assert!(rt; one.same(&other));
     for change in &changes {

@@ -27,8 +27,8 @@ pub use directory::Directory;
 pub use fault::{ApplyFault, FoldFault};
 pub use first_checkpoint::write_first_checkpoint;
 pub use laws::{
-    directories_are_compared, kept_directories_are_read, written_changes_are_read, written_checkpoints_are_read,
-    written_entries_are_read,
+    directories_are_compared, kept_directories_are_read, written_changes_are_read,
+    written_checkpoints_are_read, written_entries_are_read,
 };
 pub use row::Row;
 
