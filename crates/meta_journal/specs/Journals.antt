@@ -1,5 +1,6 @@
 -- The journal that a flash keeps, and what images hold while it changes.
-use Rattle.std.specs.Prelude.{◌≡◌, ◌⊎◌, ℕ, ◌+◌, ◌%◌, ◌^◌, ◌<◌, true, false, Bool, ◌||◌, if◌then◌else◌, List, Option, Some}
+use Rattle.std.specs.Prelude.{◌≡◌, ◌⊎◌, ℕ, ◌+◌, ◌%◌, ◌^◌, ◌<◌, true, false, Bool, ◌||◌}
+use Rattle.std.specs.Prelude.{if◌then◌else◌, List, Option, Some}
 use Rattle.board.specs.Flash.{Flash}
 use Rattle.commit_gate.specs.Commits.{IsCleanFrom, Stands}
 use Rattle.commit_gate.specs.Entries.{Entry, text_at}
@@ -14,9 +15,10 @@ use Rattle.meta_journal.specs.Halves.{half_base, half_of, half_pages}
 abbrev pub FirmJournal : Flash → Type 0
 FirmJournal flash = (p : ℕ) → p < 1792 → flash.loose p ≡ false
 
--- The three root pages are this root of the device, its half holds this directory, and a stop leaves
--- all that. The half's entries end at the page `at`, and the pages from there on are clean.
-pub record IsJournal (blocks : ℕ) (root : Root) (d : Directory) (at : ℕ) (flash : Flash) : Type 0 where
+-- The three root pages are this root of the device, its half holds this directory, and a stop
+-- leaves all that. The half's entries end at the page `at`, and the pages from there on are clean.
+pub record IsJournal (blocks : ℕ) (root : Root) (d : Directory) (at : ℕ) (flash : Flash)
+    : Type 0 where
   pub own : is_own blocks root ≡ true
   pub rooted : Rooted root flash
   pub text : List ℕ
@@ -40,7 +42,8 @@ HoldsEither blocks before after image = Holds blocks before image ⊎ Holds bloc
 abbrev pub next_of : Root → Root
 next_of root = record root { generation = (root.generation + 1) % 2 ^ 64 }
 
--- the pages that a switch from this root touches: the root blocks, and the half that it does not name
+-- the pages that a switch from this root touches: the root blocks, and the half that it does not
+-- name
 abbrev pub switch_pages : Root → ℕ → Bool
 switch_pages root p = is_root_block p || half_pages (half_base (half_of (next_of root))) p
 

@@ -16,9 +16,9 @@ use board::{Board, Failed};
 use commit_gate::append;
 use root_vote::Root;
 
-/// Adds an entry of 1 to 5,116 octets to the half that `root` names, with its gate in the page `at`,
-/// and returns the page behind it. From `Ok` on the entry survives a power loss. `Failed`: a call of
-/// the board failed; the entry is then there whole or not at all.
+/// Adds an entry of 1 to 5,116 octets to the half that `root` names, with its gate in the page
+/// `at`, and returns the page behind it. From `Ok` on the entry survives a power loss. `Failed`: a
+/// call of the board failed; the entry is then there whole or not at all.
 pub fn commit<B: Board>(board: &mut B, root: Root, at: u32, entry: &[u8]) -> Result<u32, Failed>
     requires shortest { 1 ≤ length entry.now }
     requires longest { length entry.now ≤ 5116 }

@@ -4,7 +4,8 @@ ghost use Rattle.board.specs.Counts.{Rose};
 ghost use Rattle.board.specs.Meaning.{TellsFlash};
 ghost use Rattle.board.specs.Touches.{Touches};
 ghost use Rattle.commit_gate.specs.Entries.{payload_pages};
-ghost use Rattle.meta_journal.specs.Halves.{erased_half, half_block, half_of, half_pages, with_checkpoint};
+ghost use Rattle.meta_journal.specs.Halves.{erased_half, half_block, half_of, half_pages};
+ghost use Rattle.meta_journal.specs.Halves.{with_checkpoint};
 ghost use Rattle.meta_journal.specs.Journals.{next_of};
 
 use board::{Board, Failed};

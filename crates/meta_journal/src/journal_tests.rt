@@ -1,5 +1,5 @@
-// What no clause says: that a switch and a commit succeed on a device that does not fail, and what is
-// read of the halves after each stop.
+// What no clause says: that a switch and a commit succeed on a device that does not fail, and what
+// is read of the halves after each stop.
 ghost use Rattle.std.specs.Prelude.{◌≡◌};
 
 use crate::committing::commit;
@@ -17,8 +17,8 @@ const TORN: [Torn; 3] = [Torn::Undone, Torn::Fill(0x5a), Torn::Fill(0)];
 // A change of the time to 16 and of the reports to 1.
 const CLOCK: [u8; 9] = [1, 0, 0, 0, 0, 0, 16, 0, 1];
 
-// The octets of the checkpoint in the half that counts, of a split in half 0, and those of the first
-// entry behind it.
+// The octets of the checkpoint in the half that counts, of a split in half 0, and those of the
+// first entry behind it.
 fn lengths_of<B: Board>(board: &mut B) -> Result<(usize, usize), Failed> {
     let root = match read_roots(board)?.choice() {
         Choice::Agreed(root) => root,

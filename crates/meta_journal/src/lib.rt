@@ -1,4 +1,5 @@
-//! The journal of a directory: the directory that an image holds, and the format that begins it.
+//! The journal of a directory: the directory that an image holds, the format that begins it, and
+//! how entries and checkpoints are added.
 #![tactic(auto)]
 
 mod committing;

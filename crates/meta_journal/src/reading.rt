@@ -1,6 +1,7 @@
-// The checkpoint of a half: its length in four octets, highest first, 1 to 20,476; its text; zeros to
-// the end of the last page.
-ghost use Rattle.std.specs.Prelude.{◌≡◌, ◌⊎◌, ◌≤◌, ◌*◌, length, IfOk, IfSome, MatchOption, OnOk, OnErr};
+// The checkpoint of a half: its length in four octets, highest first, 1 to 20,476; its text; zeros
+// to the end of the last page.
+ghost use Rattle.std.specs.Prelude.{◌≡◌, ◌⊎◌, ◌≤◌, ◌*◌, length, IfOk, IfSome, MatchOption, OnOk};
+ghost use Rattle.std.specs.Prelude.{OnErr};
 ghost use Rattle.board.specs.Counts.{Rose};
 ghost use Rattle.board.specs.Meaning.{TellsFlash};
 ghost use Rattle.board.specs.Reads.{ReadsOnly};

@@ -1,8 +1,8 @@
-// A switch writes the directory of the journal as a checkpoint into the half that does not count, and
-// makes it count.
+// A switch writes the directory of the journal as a checkpoint into the half that does not count,
+// and makes it count.
 //
-// Order: where the votes differ, a barrier and their repair; both blocks of the other half are erased,
-// barrier; the checkpoint's pages, barrier; the three roots, one after another.
+// Order: where the votes differ, a barrier and their repair; both blocks of the other half are
+// erased, barrier; the checkpoint's pages, barrier; the three roots, one after another.
 // 1. The roots are repaired before the other half is erased: of a split both halves count.
 // 2. The checkpoint is firm before the first root is rewritten: from then on either half may count.
 // 3. The old half is not touched: it counts until the second root is firm.
@@ -17,7 +17,8 @@ ghost use Rattle.root_vote.specs.Rooted.{SpellRoot, is_root_block, with_roots};
 ghost use Rattle.store_directory.specs.Directory.{Directory};
 ghost use Rattle.meta_journal.specs.Directories.{directory_by, directory_of, is_own};
 ghost use Rattle.meta_journal.specs.Halves.{half_block, half_of, with_checkpoint};
-ghost use Rattle.meta_journal.specs.Journals.{FirmJournal, Holds, IsJournal, next_of, repair_work, switch_pages};
+ghost use Rattle.meta_journal.specs.Journals.{FirmJournal, Holds, IsJournal, next_of, repair_work};
+ghost use Rattle.meta_journal.specs.Journals.{switch_pages};
 
 use crate::half::{begin_half, half_of, next_root};
 use board::{Board, Failed};
@@ -96,9 +97,10 @@ fn unite<B: Board>(board: &mut B, votes: &Votes, root: Root) -> Result<(), Faile
     Ok(())
 }
 
-/// Writes a checkpoint of 1 to 20,476 octets into the half that `root` does not name, makes that half
-/// count, and returns the root that names it. `root` is the one that the votes agree on, or the first
-/// of their split. `Failed`: a call of the board failed; the journal may then begin in either half.
+/// Writes a checkpoint of 1 to 20,476 octets into the half that `root` does not name, makes that
+/// half count, and returns the root that names it. `root` is the one that the votes agree on, or
+/// the first of their split. `Failed`: a call of the board failed; the journal may then begin in
+/// either half.
 pub fn switch<B: Board>(
     board: &mut B,
     votes: &Votes,
@@ -118,7 +120,8 @@ pub fn switch<B: Board>(
         → IsJournal (B.means.device board.old).blocks (next_of root) d
         (payload_pages (length checkpoint.now)) (B.means.flash board.new)) }
 
-    // Also if it failed, each image holds the directory that the flash held, if the checkpoint spells it.
+    // Also if it failed, each image holds the directory that the flash held, if the checkpoint
+    // spells it.
     ensures any_moment { TellsFlash B.means board.old
         → AreVotes votes.now.votes (B.means.flash board.old).content
         → FirmJournal (B.means.flash board.old) → (d : Directory)
