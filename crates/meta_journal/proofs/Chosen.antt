@@ -1,8 +1,7 @@
 -- The directory by a choice of the roots, taken apart and put together.
-use Rattle.std.proofs.Common.{◌≡◌, ℕ, ◌%◌, Bool, true, false, ◌&&◌, Option, Some, None, refl, sym, ◌∙◌, ap, subst}
+use Rattle.std.proofs.Common.{◌≡◌, ℕ, Bool, true, false, ◌&&◌, Option, Some, refl, sym, ◌∙◌, ap}
 use Rattle.std.proofs.lemmas.Bool.{and_from, and_parts}
 use Rattle.std.proofs.lemmas.Option.{none-some}
-use Rattle.root_vote.specs.declared.root.Root.{Root}
 use Rattle.root_vote.specs.declared.votes.Choice.{Choice}
 use Rattle.root_vote.specs.declared.votes.Choice.TheVariants.{Agreed, Nobody, Split}
 use Rattle.store_directory.specs.Directory.{Directory}

@@ -1,5 +1,5 @@
 -- The directory of small images, as equations that the check computes.
-use Rattle.std.proofs.Common.{◌≡◌, ℕ, ◌==◌, List, [], ◌∷◌, ◌++◌, replicate, Option, refl}
+use Rattle.std.proofs.Common.{◌≡◌, ℕ, ◌==◌, List, [], ◌∷◌, ◌++◌, replicate, refl}
 use Rattle.std.specs.Prelude.{Some, None, if◌then◌else◌}
 use Rattle.board.specs.Flash.{blank}
 use Rattle.commit_gate.specs.Entries.{area_of, entries_from, entry_at, length_in, octets_from, open_page, text_at}

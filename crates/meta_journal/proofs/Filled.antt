@@ -1,5 +1,5 @@
 -- A half that was erased and has a checkpoint in front.
-use Rattle.std.proofs.Common.{◌≡◌, inl, inr, ℕ, ◌+◌, ◌-◌, ◌*◌, ◌<◌, ◌≤◌, true, false, List, [], Option, Some, length, refl, sym, ◌∙◌, ap, arith}
+use Rattle.std.proofs.Common.{◌≡◌, inl, inr, ℕ, ◌+◌, ◌-◌, ◌*◌, ◌<◌, ◌≤◌, true, false, List, [], Option, Some, length, sym, ◌∙◌, ap, arith}
 use Rattle.std.proofs.lemmas.Bool.{cases_lt}
 use Rattle.std.specs.Prelude.{if◌then◌else◌}
 use Rattle.board.specs.Flash.{Flash, blank, pages_of_block}
@@ -11,7 +11,6 @@ use Rattle.commit_gate.proofs.AreaPages.{area_page}
 use Rattle.commit_gate.proofs.EntriesRead.{from_end}
 use Rattle.commit_gate.proofs.Spelled.{text_spelled}
 use Rattle.store_directory.specs.Options.{◌>>=◌}
-use Rattle.store_directory.specs.Directory.{Directory}
 use Rattle.meta_journal.specs.Directories.{directory_at, directory_by, directory_in}
 use Rattle.meta_journal.specs.Halves.{half_pages, with_checkpoint}
 use Rattle.meta_journal.proofs.HalfPages.{block_within, text_within}

@@ -1,26 +1,24 @@
 -- The checkpoint of a format gives its directory.
-use Rattle.std.proofs.Common.{◌≡◌, ℕ, ◌+◌, ◌*◌, ◌^◌, ◌<◌, ◌≤◌, true, List, [], ◌∷◌, Option, Some, All, length, take, drop, replicate, refl, ◌∙◌, ap, subst, arith}
+use Rattle.std.proofs.Common.{◌≡◌, ℕ, ◌^◌, ◌<◌, ◌≤◌, true, List, [], ◌∷◌, Option, Some, All, length, take, drop, replicate, refl, ◌∙◌, ap, subst, arith}
 use Rattle.std.proofs.lemmas.List.{length-replicate}
 use Rattle.std.proofs.lemmas.List.Elements.{All-replicate}
 use Rattle.std.proofs.Math.Seq.{take-append_seam}
 use Rattle.octet_fields.specs.Fields.{Writes}
 use Rattle.octet_fields.proofs.Splices.{Writes-at_front}
-use Rattle.control_defs.specs.PatternOctets.{spelled_pattern}
 use Rattle.store_directory.specs.Changes.{apply}
-use Rattle.store_directory.specs.Checkpoints.{Checkpoint, checkpoint_in, checkpoint_octets, is_lawful, read_checkpoint}
-use Rattle.store_directory.specs.Directory.{Directory, FitsLink}
+use Rattle.store_directory.specs.Checkpoints.{Checkpoint, checkpoint_in, is_lawful, read_checkpoint}
+use Rattle.store_directory.specs.Directory.{FitsLink}
 use Rattle.store_directory.specs.Fitting.{FitPatterns, FitsDirectory, FitsListed}
 use Rattle.store_directory.specs.Format.{first_directory, first_row, first_store}
 use Rattle.store_directory.specs.Rows.{FitsRow}
 use Rattle.control_defs.specs.Patterns.{IsPattern}
 use Rattle.control_defs.specs.declared.patterns.Pattern.{Pattern}
 use Rattle.control_defs.specs.declared.patterns.Pattern.TheVariants.{Every}
-use Rattle.record_view.specs.declared.link.Link.{Link}
 use Rattle.store_directory.specs.Options.{◌>>=◌, given}
 use Rattle.store_directory.proofs.FirstCheckpoints.{length-first}
 use Rattle.store_directory.proofs.WrittenCheckpoints.{checkpoint_in-octets}
 use Rattle.meta_journal.specs.Directories.{directory_by}
-use Rattle.meta_journal.specs.Formats.{first_text}
+use Rattle.meta_journal.specs.Formats.{first_pages, first_text}
 
 row_fits : FitsRow first_row
 row_fits = record {
@@ -85,3 +83,7 @@ first_short blocks most = (omega (arith, length-first blocks), omega (arith, len
 pub front_written : (old new ys : List ℕ) (n : ℕ) → Writes old new 0 ys → n ≡ length ys → take n new ≡ ys
 front_written old new ys n written is =
     (λ i. take (is i) (Writes-at_front written i)) ∙ take-append_seam ys (drop (length ys) old)
+
+-- the checkpoint of 16 blocks fills one page
+pub first_page_alone : (blocks : ℕ) → blocks ≡ 16 → first_pages blocks ≡ 1
+first_page_alone blocks is = omega (arith, length-first blocks)

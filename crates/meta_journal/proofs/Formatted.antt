@@ -1,17 +1,16 @@
 -- The flash after a format.
-use Rattle.std.proofs.Common.{◌≡◌, ℕ, zero, suc, ◌+◌, ◌*◌, ◌%◌, ◌<◌, ◌≤◌, true, false, List, [], Some, length, refl, sym, ◌∙◌, ap, subst, arith, eq-eqb}
+use Rattle.std.proofs.Common.{◌≡◌, ℕ, zero, suc, ◌+◌, ◌*◌, ◌<◌, ◌≤◌, true, false, List, Some, length, refl, ◌∙◌, ap, arith, eq-eqb}
 use Rattle.std.specs.Prelude.{if◌then◌else◌}
-use Rattle.board.specs.Flash.{Flash, IsImage, blank, only_page, pages_of_block}
+use Rattle.board.specs.Flash.{Flash, IsImage, only_page, pages_of_block}
 use Rattle.board.proofs.Pages.{above_pages, elsewhere}
-use Rattle.commit_gate.specs.Commits.{payload_page}
 use Rattle.root_vote.specs.declared.root.Root.{Root}
 use Rattle.root_vote.specs.Roots.{root_page}
 use Rattle.root_vote.specs.Rooted.{Rooted, is_root_block, rewritten, with_roots}
 use Rattle.root_vote.proofs.Rewriting.{first_page, rewritten_others}
 use Rattle.root_vote.proofs.RootStages.{root_block}
 use Rattle.store_directory.specs.Format.{first_directory}
-use Rattle.meta_journal.specs.Directories.{directory_of, half_area}
-use Rattle.meta_journal.specs.Formats.{IsFormatted, after_format, first_pages, first_text}
+use Rattle.meta_journal.specs.Directories.{directory_of}
+use Rattle.meta_journal.specs.Formats.{IsFormatted, after_format, first_text}
 use Rattle.meta_journal.specs.Halves.{first_root, half_base, half_block, with_checkpoint}
 use Rattle.meta_journal.proofs.Filled.{filled_blank, filled_erased, filled_half, filled_text}
 use Rattle.meta_journal.proofs.FirstDirectory.{first_held, first_short}

@@ -1,7 +1,6 @@
 -- Images that agree on the roots and on the halves that count hold the same directory.
-use Rattle.std.proofs.Common.{◌≡◌, ℕ, ◌+◌, ◌*◌, ◌%◌, ◌<◌, ◌≤◌, Bool, true, false, ◌&&◌, List, Option, Some, refl, sym, ◌∙◌, ap, subst, arith, eq-eqb}
+use Rattle.std.proofs.Common.{◌≡◌, ℕ, ◌+◌, ◌<◌, true, ◌&&◌, List, Option, Some, refl, ◌∙◌, ap, arith, eq-eqb}
 use Rattle.commit_gate.proofs.AreaPages.{area_same}
-use Rattle.root_vote.specs.declared.root.Root.{Root}
 use Rattle.root_vote.specs.declared.votes.Choice.{Choice}
 use Rattle.root_vote.specs.declared.votes.Choice.TheVariants.{Agreed, Nobody, Split}
 use Rattle.root_vote.specs.Roots.{choice_by, choice_of, root_in}

@@ -1,5 +1,5 @@
 -- What images hold while the roots are rewritten.
-use Rattle.std.proofs.Common.{◌≡◌, ◌⊎◌, inl, inr, ℕ, zero, suc, ◌+◌, ◌*◌, ◌%◌, ◌<◌, ◌≤◌, Bool, true, false, List, Option, Some, refl, sym, ◌∙◌, ap, subst, arith, eq-eqb}
+use Rattle.std.proofs.Common.{◌≡◌, inl, inr, ℕ, zero, suc, ◌+◌, ◌<◌, ◌≤◌, true, List, Option, Some, refl, sym, ◌∙◌, ap, subst, arith, eq-eqb}
 use Rattle.board.specs.Flash.{Flash, IsImage, loosened}
 use Rattle.board.proofs.Pages.{above_pages}
 use Rattle.root_vote.specs.declared.root.Root.{Root}

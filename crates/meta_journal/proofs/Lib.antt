@@ -6,3 +6,6 @@ pub mod Frame
 pub mod HalfPages
 pub mod Holding
 pub mod Formatted
+pub mod Committed
+pub mod Written
+pub mod Switched

@@ -1,5 +1,6 @@
 -- The directory that an image holds.
-use Rattle.std.specs.Prelude.{◌≡◌, ℕ, ◌+◌, ◌*◌, ◌%◌, ◌<◌, Bool, true, false, ◌&&◌, ◌==◌, List, Option, Some, None}
+use Rattle.std.specs.Prelude.{◌≡◌, ℕ, ◌+◌, ◌*◌, ◌<◌, Bool, true, false, ◌&&◌, ◌==◌, List, Option}
+use Rattle.std.specs.Prelude.{Some, None}
 use Rattle.board.specs.Flash.{Flash}
 use Rattle.commit_gate.specs.Entries.{Damaged, End, Entry, EntryAt, area_of, entries_from, text_at}
 use Rattle.root_vote.specs.declared.root.Root.{Root}
@@ -14,7 +15,8 @@ use Rattle.store_directory.specs.Same.{same_directory}
 use Rattle.meta_journal.specs.Halves.{IsFirmHalf, half_base, half_of}
 
 -- the directory of a checkpoint's text with entries folded over it
-abbrev pub directory_by : (blocks : ℕ) → (text : List ℕ) → (entries : List (List ℕ)) → Option Directory
+abbrev pub directory_by : (blocks : ℕ) → (text : List ℕ) → (entries : List (List ℕ))
+    → Option Directory
 directory_by blocks text entries = do
   checkpoint ← read_checkpoint blocks text
   fold_entries checkpoint.directory entries
@@ -78,4 +80,5 @@ pub record HoldsHalf (blocks half : ℕ) (d : Directory) (flash : Flash) : Type 
 
 -- each half that counts is firm
 abbrev pub FirmHalves : Flash → Type 0
-FirmHalves flash = (half : ℕ) → half < 2 → counts (choice_of flash.content) half ≡ true → IsFirmHalf half flash
+FirmHalves flash = (half : ℕ) → half < 2 → counts (choice_of flash.content) half ≡ true
+    → IsFirmHalf half flash

@@ -21,8 +21,8 @@ abbrev pub after_format : (blocks : ℕ) → Flash → Flash
 after_format blocks flash =
     with_roots (first_root blocks) (with_checkpoint (half_block 0) (first_text blocks) flash)
 
--- The three root pages are the root of generation 0, half 0 is the checkpoint with clean and blank pages
--- behind it, and a stop leaves all that.
+-- The three root pages are the root of generation 0, half 0 is the checkpoint with clean and blank
+-- pages behind it, and a stop leaves all that.
 pub record IsFormatted (blocks : ℕ) (flash : Flash) : Type 0 where
   pub roots : (block : ℕ) → block < 3
       → flash.content (256 * block) ≡ root_page (first_root blocks)

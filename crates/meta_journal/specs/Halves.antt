@@ -1,9 +1,8 @@
 -- The halves of a journal, and the flash while one is begun.
-use Rattle.std.specs.Prelude.{◌≡◌, ℕ, ◌+◌, ◌*◌, ◌%◌, ◌<◌, Bool, false, ◌||◌, List}
+use Rattle.std.specs.Prelude.{◌≡◌, ℕ, ◌+◌, ◌*◌, ◌%◌, ◌<◌, Bool, false, List}
 use Rattle.board.specs.Flash.{Flash, firm, pages_from, pages_of_block, wiped}
 use Rattle.commit_gate.specs.Commits.{with_text}
 use Rattle.root_vote.specs.declared.root.Root.{Root}
-use Rattle.root_vote.specs.Rooted.{is_root_block}
 
 -- the half that a root names
 abbrev pub half_of : Root → ℕ

@@ -2,3 +2,4 @@ pub mod Halves
 pub mod Directories
 pub mod Formats
 pub mod Shown
+pub mod Journals

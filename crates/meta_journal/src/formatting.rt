@@ -4,8 +4,8 @@
 // roots of generation 0, one after another.
 // 1. The checkpoint is firm before the first root names its half.
 // 2. So as soon as two roots are firm, each image holds the directory of the checkpoint.
-// 3. Until then the roots from before may count, over a half that is gone: such an image may hold no
-//    directory.
+// 3. Until then the roots from before may count, over a half that is gone: such an image may hold
+//    no directory.
 ghost use Rattle.std.specs.Prelude.{◌≡◌, ℕ, List, Some, OnOk, OnErr};
 ghost use Rattle.board.specs.Counts.{Rose};
 ghost use Rattle.board.specs.Flash.{IsImage};
@@ -13,8 +13,9 @@ ghost use Rattle.board.specs.Meaning.{TellsFlash};
 ghost use Rattle.board.specs.Touches.{Touches};
 ghost use Rattle.store_directory.specs.Format.{first_directory};
 ghost use Rattle.meta_journal.specs.Directories.{directory_of};
-ghost use Rattle.meta_journal.specs.Formats.{IsFormatted, after_format};
-ghost use Rattle.meta_journal.specs.Halves.{format_pages};
+ghost use Rattle.meta_journal.specs.Formats.{IsFormatted, after_format, first_pages};
+ghost use Rattle.meta_journal.specs.Halves.{first_root, format_pages};
+ghost use Rattle.meta_journal.specs.Journals.{IsJournal};
 
 use crate::half::begin_half;
 use board::{Board, Failed};
@@ -27,9 +28,9 @@ const LONGEST: usize = 47 + 4 * 512;
 
 const VERSION: u8 = 1;
 
-/// Begins a journal on a device, whatever it holds: the directory of one store that takes every packet.
-/// It takes no memory. `Failed`: a call of the board failed; the blocks 0 to 4 may hold any octets,
-/// and the others are as they were. A power loss before `Ok` may leave no directory.
+/// Begins a journal on a device, whatever it holds: the directory of one store that takes every
+/// packet. It takes no memory. `Failed`: a call of the board failed; the blocks 0 to 4 may hold any
+/// octets, and the others are as they were. A power loss before `Ok` may leave no directory.
 pub fn format<B: Board>(board: &mut B) -> Result<(), Failed>
     ensures flash { OnOk result (TellsFlash B.means board.old → B.means.flash board.new
         ≡ after_format (B.means.device board.old).blocks (B.means.flash board.old)) }
@@ -37,6 +38,12 @@ pub fn format<B: Board>(board: &mut B) -> Result<(), Failed>
         board.new (B.means.moment board.new) (B.means.flash board.new).content) }
     ensures formatted { OnOk result (TellsFlash B.means board.old
         → IsFormatted (B.means.device board.old).blocks (B.means.flash board.new)) }
+
+    // The journal begins: its half holds the directory, and has no entry.
+    ensures journal { OnOk result (TellsFlash B.means board.old
+        → IsJournal (B.means.device board.old).blocks
+        (first_root (B.means.device board.old).blocks) first_directory
+        (first_pages (B.means.device board.old).blocks) (B.means.flash board.new)) }
 
     // From `Ok` on each image holds the directory of a format.
     ensures holds { OnOk result (TellsFlash B.means board.old

@@ -4,10 +4,33 @@ ghost use Rattle.board.specs.Counts.{Rose};
 ghost use Rattle.board.specs.Meaning.{TellsFlash};
 ghost use Rattle.board.specs.Touches.{Touches};
 ghost use Rattle.commit_gate.specs.Entries.{payload_pages};
-ghost use Rattle.meta_journal.specs.Halves.{erased_half, half_pages, with_checkpoint};
+ghost use Rattle.meta_journal.specs.Halves.{erased_half, half_block, half_of, half_pages};
+ghost use Rattle.meta_journal.specs.Halves.{with_checkpoint};
+ghost use Rattle.meta_journal.specs.Journals.{next_of};
 
 use board::{Board, Failed};
 use commit_gate::{Area, write_text};
+use root_vote::Root;
+
+/// The half that a root names.
+pub fn half_of(root: Root) -> Area
+    ensures { result.first ≡ half_block (half_of root) }
+{
+    Area {
+        first: 3 + 2 * (root.generation % 2) as u32,
+    }
+}
+
+/// The root behind this one, which names the other half. The generation behind the greatest is 0.
+pub fn next_root(root: Root) -> Root
+    ensures { result ≡ next_of root }
+{
+    Root {
+        generation: root.generation.wrapping_add(1),
+        blocks: root.blocks,
+        version: root.version,
+    }
+}
 
 // Erases both blocks of a half, so that its pages are clean.
 fn erase_half<B: Board>(board: &mut B, area: Area) -> Result<(), Failed>
@@ -25,8 +48,7 @@ fn erase_half<B: Board>(board: &mut B, area: Area) -> Result<(), Failed>
 {
     board.erase(area.first)?;
     board.erase(area.first + 1)?;
-    board.barrier()?;
-    Ok(())
+    board.barrier()
 }
 
 /// Erases a half, whatever it holds, and writes a checkpoint of at most 20,476 octets at its front.

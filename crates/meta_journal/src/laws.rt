@@ -5,12 +5,14 @@ ghost use Rattle.root_vote.specs.declared.root.Root.{Root};
 ghost use Rattle.root_vote.specs.Rooted.{IsBetween, IsRepaired, Rooted};
 ghost use Rattle.root_vote.specs.Roots.{choice_of};
 ghost use Rattle.store_directory.specs.Directory.{Directory};
-ghost use Rattle.meta_journal.specs.Directories.{FirmHalves, HoldsHalf, SameJournal, directory_of, is_own};
+ghost use Rattle.meta_journal.specs.Directories.{FirmHalves, HoldsHalf, SameJournal, directory_of};
+ghost use Rattle.meta_journal.specs.Directories.{is_own};
 ghost use Rattle.meta_journal.specs.Halves.{half_of};
+ghost use Rattle.meta_journal.specs.Journals.{IsJournal};
 
-/// Images that agree on the three root pages and on the half that counts, or on both halves where the
-/// roots are split, hold the same directory. All other pages may hold anything, and among them the
-/// half that does not count.
+/// Images that agree on the three root pages and on the half that counts, or on both halves where
+/// the roots are split, hold the same directory. All other pages may hold anything, and among them
+/// the half that does not count.
 pub fn other_pages_may_hold_anything()
     ensures { (blocks : ℕ) (image other : ℕ → List ℕ) → SameJournal image other
         → directory_of blocks other ≡ directory_of blocks image }
@@ -41,4 +43,11 @@ pub fn repairing_keeps_the_directory()
         → 16 ≤ blocks → directory_of blocks flash.content ≡ Some d → FirmHalves flash
         → IsRepaired blocks flash (choice_of flash.content) image
         → directory_of blocks image ≡ Some d }
+{}
+
+/// Each image of a flash that keeps a journal holds the journal's directory.
+pub fn journals_hold_their_directory()
+    ensures { (blocks : ℕ) (flash : Flash) (root : Root) (d : Directory) (at : ℕ)
+        (image : ℕ → List ℕ) → 16 ≤ blocks → at ≤ 512 → IsJournal blocks root d at flash
+        → IsImage blocks flash image → directory_of blocks image ≡ Some d }
 {}

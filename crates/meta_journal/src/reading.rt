@@ -1,6 +1,7 @@
-// The checkpoint of a half: its length in four octets, highest first, 1 to 20,476; its text; zeros to
-// the end of the last page.
-ghost use Rattle.std.specs.Prelude.{◌≡◌, ◌⊎◌, ◌≤◌, ◌*◌, length, IfOk, IfSome, MatchOption, OnOk, OnErr};
+// The checkpoint of a half: its length in four octets, highest first, 1 to 20,476; its text; zeros
+// to the end of the last page.
+ghost use Rattle.std.specs.Prelude.{◌≡◌, ◌⊎◌, ◌≤◌, ◌*◌, length, IfOk, IfSome, MatchOption, OnOk};
+ghost use Rattle.std.specs.Prelude.{OnErr};
 ghost use Rattle.board.specs.Counts.{Rose};
 ghost use Rattle.board.specs.Meaning.{TellsFlash};
 ghost use Rattle.board.specs.Reads.{ReadsOnly};
@@ -27,7 +28,7 @@ pub fn checkpoint_of<'a, B: Board>(
     ensures checkpoint { IfOk result (λ found. TellsFlash B.means board.old → MatchOption found
         (HasNoCheckpoint (area_of (256 * area.first) (B.means.flash board.old).content))
         (λ read. text_at 20476 (area_of (256 * area.first) (B.means.flash board.old).content) 0
-            ≡ Entry read.0.now read.1)) }
+        ≡ Entry read.0.now read.1)) }
     ensures range { IfOk result (λ found. IfSome found (λ read. (1 ≤ length read.0.now)
         × (length read.0.now ≤ 20476) × (read.1 ≡ payload_pages (length read.0.now)))) }
     ensures reads { ReadsOnly B.means 80 board.old board.new }

@@ -19,7 +19,10 @@ const ROOT: [u8; 13] = [80, 85, 83, 83, 84, 79, 82, 69, 1, 0, 0, 0, 16];
 
 // The checkpoint of 16 blocks in front of their erase counts: its length, the time, the reports, no
 // forward pattern, and one store with its row, one pattern and no link.
-const CHECKPOINT: [u8; 51] = [0, 0, 0, 111, 0, 0, 0, 0, 0, 0, 0, 0, 0, 1, 0, 1, 0, 0, 0, 0, 64, 1, 3, 0, 0, 0, 0, 0, 0, 0, 0, 0, 0, 0, 0, 0, 0, 0, 0, 0, 0, 0, 0, 1, 0, 0, 0, 0, 0, 0, 0];
+const CHECKPOINT: [u8; 51] = [
+    0, 0, 0, 111, 0, 0, 0, 0, 0, 0, 0, 0, 0, 1, 0, 1, 0, 0, 0, 0, 64, 1, 3, 0, 0, 0, 0, 0, 0, 0, 0,
+    0, 0, 0, 0, 0, 0, 0, 0, 0, 0, 0, 0, 1, 0, 0, 0, 0, 0, 0, 0,
+];
 
 // Whether these octets come first, and zeros behind them.
 fn begins_with(octets: &[u8], front: &[u8]) -> bool {
@@ -136,7 +139,10 @@ fn a_length_that_is_not_lawful_is_no_checkpoint(rt: HostRuntime) -> Result<(), F
     for octet in [0, 0x5a, 255] {
         let image = vec![in rt.alloc(); octet; 1_048_576]?;
         let mut board = MemBoard::from_image(rt.alloc(), image)?;
-        assert!(rt; checkpoint_of(&mut board, HALF, &mut buf)?.is_none(), "{octet}");
+        assert!(rt;
+            checkpoint_of(&mut board, HALF, &mut buf)?.is_none(),
+            "{octet}"
+        );
         assert_eq!(rt; work(&board), [1, 0, 0, 0]);
     }
     Ok(())

@@ -1,5 +1,5 @@
 -- The text of the checkpoint that a format writes.
-use Rattle.std.proofs.Common.{◌≡◌, ℕ, ◌+◌, ◌*◌, ◌≤◌, List, [], ◌∷◌, ◌++◌, length, replicate, take, refl, sym, ◌∙◌, ap, subst, arith, length-append}
+use Rattle.std.proofs.Common.{◌≡◌, ℕ, ◌+◌, ◌*◌, ◌≤◌, List, [], ◌∷◌, ◌++◌, length, replicate, take, refl, sym, ◌∙◌, ap, subst, length-append}
 use Rattle.std.proofs.lemmas.List.{length-replicate, take-replicate}
 use Rattle.byteorder.specs.Numbers.{length-bytes_high_first}
 use Rattle.octet_fields.specs.Fields.{Writes, big_bytes}

@@ -1,7 +1,7 @@
 -- What the test of two directories says of some.
 use Rattle.std.proofs.Common.{◌≡◌, true, false, [], ◌∷◌, Some, refl}
 use Rattle.control_defs.specs.declared.instructions.StoreKind.TheVariants.{Bounded}
-use Rattle.control_defs.specs.declared.patterns.Pattern.TheVariants.{App, Every}
+use Rattle.control_defs.specs.declared.patterns.Pattern.TheVariants.{App}
 use Rattle.store_directory.specs.Directory.{Directory, Listed}
 use Rattle.store_directory.specs.Format.{first_directory, first_row, first_store}
 use Rattle.store_directory.specs.Same.{same_directory}

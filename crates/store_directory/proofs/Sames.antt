@@ -1,5 +1,5 @@
 -- Two directories are the same exactly where the test says so.
-use Rattle.std.proofs.Common.{◌≡◌, ℕ, zero, suc, ◌<◌, length, slice_get, unwrap_or, [], ◌∷◌, arith, Bool, true, false, ◌&&◌, ◌==◌, List, Option, Some, None, refl, ap, subst}
+use Rattle.std.proofs.Common.{◌≡◌, ℕ, suc, ◌<◌, length, slice_get, unwrap_or, [], ◌∷◌, arith, Bool, true, false, ◌&&◌, ◌==◌, List, Option, Some, None, refl, ap, subst}
 use Rattle.std.specs.Bool.{Decides}
 use Rattle.std.specs.Cmp.Lexicographic.{pointwise}
 use Rattle.std.proofs.lemmas.Bool.{and_from, and_parts, false≢true}

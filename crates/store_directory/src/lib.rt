@@ -42,4 +42,6 @@ mod directory_tests;
 #[cfg(test)]
 mod folding_tests;
 #[cfg(test)]
+mod format_tests;
+#[cfg(test)]
 mod row_tests;

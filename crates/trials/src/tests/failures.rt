@@ -49,7 +49,7 @@ fn a_failed_take_ends_behind_the_lines_taken(rt: HostRuntime) -> Result<(), Fail
     let alloc = rt.alloc();
     let turns = turns(alloc)?;
     let text = text_of(alloc, &turns)?;
-    for most in [3, 4096] {
+    for most in [16, 4096] {
         let pieces = text.len().div_ceil(most);
         for before in 0..pieces + 1 {
             let (ending, sent) = session(alloc, &text, most, Some(before as u64 + 1))?;

@@ -1,15 +1,15 @@
-use Rattle.std.proofs.Common.{◌≡◌, ℕ, List, sym, ◌∙◌, ap, subst, arith, take}
+use Rattle.std.proofs.Common.{◌≡◌, ℕ, List, refl, sym, ◌∙◌, ap, subst, arith, eq-eqb, take}
 use Rattle.board.specs.Device.{Device}
 use Rattle.board.specs.Flash.{Flash, IsImage}
-use Rattle.board.specs.Meaning.{TellsFlash}
 use Rattle.board.proofs.Works.{tells_too}
-use Rattle.root_vote.specs.declared.root.Root.{Root}
 use Rattle.root_vote.specs.Rooted.{Rooted, with_roots}
-use Rattle.meta_journal.specs.Formats.{IsFormatted, after_format, first_text}
+use Rattle.meta_journal.specs.Formats.{IsFormatted, first_pages, first_text}
 use Rattle.meta_journal.specs.Halves.{first_root, half_block, with_checkpoint}
-use Rattle.meta_journal.proofs.FirstDirectory.{front_written}
+use Rattle.store_directory.specs.Format.{first_directory}
+use Rattle.meta_journal.specs.Journals.{IsJournal}
+use Rattle.meta_journal.proofs.FirstDirectory.{first_held, first_short, front_written}
+use Rattle.meta_journal.proofs.Written.{is_journal}
 use Rattle.meta_journal.proofs.Formatted.{formatted_holds, is_formatted}
-use Rattle.meta_journal.proofs.formatting.format.Given.{Over}
 use Rattle.meta_journal.proofs.formatting.format.Goals as goal
 use Rattle.meta_journal.proofs.formatting.format.Goals.{In_ok-plant}
 
@@ -55,3 +55,17 @@ returns-clause-holds g c told image left =
     let same = c.plant.ensures.touches.same ∙ c.begin_half.ensures.touches.same in
     let here : IsImage (means.device new).blocks (means.flash new) image = g.met.B.Board.images_now new image (tells_too same told) left in
     returns-clause-later g c told image (subst (λ (d : Device). IsImage d.blocks (means.flash new) image) same here)
+
+pub returns-clause-journal : goal.returns-clause-journal
+returns-clause-journal g c told =
+    let means = g.B.Board.means in
+    let old = c.args.board.now in
+    let new = c.plant.new.board in
+    let blocks = (means.device old).blocks in
+    let is = returns-clause-flash g c told in
+    let rooted : Rooted (first_root blocks) (means.flash new) =
+    subst (λ (n : ℕ). Rooted (first_root n) (means.flash new)) c.blocks-blocks.ensures (c.in_ok-plant.ensures.rooted (tells_too c.begin_half.ensures.touches.same told)) in
+    let short = first_short blocks (g.met.B.Board.few_blocks old) in
+    subst (IsJournal blocks (first_root blocks) first_directory (first_pages blocks)) (sym is)
+    (is_journal blocks (first_root blocks) (first_text blocks) first_directory (means.flash old) short.0 (omega (arith, short.1))
+    (eq-eqb blocks blocks refl) (first_held blocks) (subst (Rooted (first_root blocks)) is rooted))

@@ -1,4 +1,4 @@
-use Rattle.std.proofs.Common.{◌≡◌, ℕ, ◌+◌, ◌*◌, length, refl, arith}
+use Rattle.std.proofs.Common.{◌+◌, ◌*◌, length, refl, arith}
 use Rattle.board.specs.Touches.{Touches, no_page}
 use Rattle.board.proofs.Touching as touching
 use Rattle.commit_gate.specs.Commits.{text_pages}

@@ -1,4 +1,4 @@
-use Rattle.std.proofs.Common.{◌≡◌, ℕ, ◌+◌, ◌*◌, refl, arith}
+use Rattle.std.proofs.Common.{◌+◌, ◌*◌, refl, arith}
 use Rattle.board.specs.Flash.{pages_of_block}
 use Rattle.board.specs.Touches.{Touches, no_page}
 use Rattle.board.proofs.Touching as touching
@@ -29,11 +29,6 @@ pub returns-in_err-erase-2-clause-touches : goal.returns-in_err-erase-2-clause-t
 returns-in_err-erase-2-clause-touches g c =
     let at = goal.at.returns-in_err-erase-2-clause-touches g c in
     touching.touches_most g.B.Board.means (two g at.After-erase-2) (omega arith) (omega arith) (omega arith)
-
-pub returns-in_err-barrier-clause-touches : goal.returns-in_err-barrier-clause-touches
-returns-in_err-barrier-clause-touches g c =
-    let at = goal.at.returns-in_err-barrier-clause-touches g c in
-    three g at.After-barrier (two g at.After-erase-2)
 
 pub returns-clause-touches : goal.returns-clause-touches
 returns-clause-touches g c =

@@ -1,4 +1,4 @@
-use Rattle.std.proofs.Common.{◌≡◌, ℕ, ◌+◌, ◌-◌, ◌*◌, ◌≤◌, take, drop, sym, ◌∙◌, ap, arith}
+use Rattle.std.proofs.Common.{◌≡◌, ℕ, ◌+◌, ◌-◌, ◌*◌, take, drop, sym, ◌∙◌, ap, arith}
 use Rattle.board.specs.Flash.{Flash}
 use Rattle.board.specs.Reads.{ReadsOnly}
 use Rattle.board.proofs.Reading.{reads_most, reads_on}

@@ -1,0 +1,143 @@
+// A switch writes the directory of the journal as a checkpoint into the half that does not count,
+// and makes it count.
+//
+// Order: where the votes differ, a barrier and their repair; both blocks of the other half are
+// erased, barrier; the checkpoint's pages, barrier; the three roots, one after another.
+// 1. The roots are repaired before the other half is erased: of a split both halves count.
+// 2. The checkpoint is firm before the first root is rewritten: from then on either half may count.
+// 3. The old half is not touched: it counts until the second root is firm.
+ghost use Rattle.std.specs.Prelude.{◌≡◌, ◌≤◌, ◌+◌, [], Some, length, true, IfOk, OnOk, OnErr};
+ghost use Rattle.board.specs.Counts.{Rose};
+ghost use Rattle.board.specs.Meaning.{TellsFlash};
+ghost use Rattle.board.specs.Moments.{LeavesOnly};
+ghost use Rattle.board.specs.Touches.{Touches};
+ghost use Rattle.commit_gate.specs.Entries.{payload_pages};
+ghost use Rattle.root_vote.specs.Roots.{AreVotes, LeadsTo, choice_of_votes};
+ghost use Rattle.root_vote.specs.Rooted.{SpellRoot, is_root_block, with_roots};
+ghost use Rattle.store_directory.specs.Directory.{Directory};
+ghost use Rattle.meta_journal.specs.Directories.{directory_by, directory_of, is_own};
+ghost use Rattle.meta_journal.specs.Halves.{half_block, half_of, with_checkpoint};
+ghost use Rattle.meta_journal.specs.Journals.{FirmJournal, Holds, IsJournal, next_of, repair_work};
+ghost use Rattle.meta_journal.specs.Journals.{switch_pages};
+
+use crate::half::{begin_half, half_of, next_root};
+use board::{Board, Failed};
+use root_vote::{Root, Votes, advance, repair};
+
+// Makes the other half count, where the three root pages are `root`.
+fn turn<B: Board>(board: &mut B, root: Root, checkpoint: &[u8]) -> Result<Root, Failed>
+    requires shortest { 1 ≤ length checkpoint.now }
+    requires longest { length checkpoint.now ≤ 20476 }
+
+    ensures next { IfOk result (λ to. to ≡ next_of root) }
+    ensures flash { OnOk result (TellsFlash B.means board.old → B.means.flash board.new
+        ≡ with_roots (next_of root) (with_checkpoint (half_block (half_of (next_of root)))
+        checkpoint.now (B.means.flash board.old))) }
+    ensures seen { OnOk result (TellsFlash B.means board.old → B.means.images
+        board.new (B.means.moment board.new) (B.means.flash board.new).content) }
+    ensures journal { OnOk result (TellsFlash B.means board.old
+        → is_own (B.means.device board.old).blocks root ≡ true → (d : Directory)
+        → directory_by (B.means.device board.old).blocks checkpoint.now [] ≡ Some d
+        → IsJournal (B.means.device board.old).blocks (next_of root) d
+        (payload_pages (length checkpoint.now)) (B.means.flash board.new)) }
+    ensures any_moment { TellsFlash B.means board.old
+        → SpellRoot root (B.means.flash board.old).content → FirmJournal (B.means.flash board.old)
+        → (d : Directory)
+        → Holds (B.means.device board.old).blocks d (B.means.flash board.old).content
+        → directory_by (B.means.device board.old).blocks checkpoint.now [] ≡ Some d
+        → LeavesOnly B.means board.old board.new (Holds (B.means.device board.old).blocks d) }
+    ensures touches { Touches B.means (switch_pages root)
+        (payload_pages (length checkpoint.now) + 3) 5 8 board.old board.new }
+    ensures no_fault { OnOk result
+        ((B.means.counts board.new).flash_faults ≡ (B.means.counts board.old).flash_faults) }
+    ensures cause { OnErr result
+        (Rose (B.means.counts board.old).flash_faults (B.means.counts board.new).flash_faults) }
+{
+    let to = next_root(root);
+    begin_half(board, half_of(to), checkpoint)?;
+    advance(board, to)?;
+    Ok(to)
+}
+
+// Makes the three root pages one root.
+fn unite<B: Board>(board: &mut B, votes: &Votes, root: Root) -> Result<(), Failed>
+    requires leads { LeadsTo root (choice_of_votes votes.now.votes) }
+
+    ensures seen { OnOk result (TellsFlash B.means board.old
+        → B.means.images board.old (B.means.moment board.old) (B.means.flash board.old).content
+        → B.means.images board.new (B.means.moment board.new) (B.means.flash board.new).content) }
+    ensures united { OnOk result (TellsFlash B.means board.old
+        → AreVotes votes.now.votes (B.means.flash board.old).content
+        → FirmJournal (B.means.flash board.old)
+        → SpellRoot root (B.means.flash board.new).content) }
+    ensures is_firm { OnOk result (TellsFlash B.means board.old
+        → FirmJournal (B.means.flash board.old) → FirmJournal (B.means.flash board.new)) }
+    ensures holds { OnOk result (TellsFlash B.means board.old
+        → AreVotes votes.now.votes (B.means.flash board.old).content
+        → FirmJournal (B.means.flash board.old) → (d : Directory)
+        → Holds (B.means.device board.old).blocks d (B.means.flash board.old).content
+        → Holds (B.means.device board.old).blocks d (B.means.flash board.new).content) }
+    ensures any_moment { TellsFlash B.means board.old
+        → AreVotes votes.now.votes (B.means.flash board.old).content
+        → FirmJournal (B.means.flash board.old) → (d : Directory)
+        → Holds (B.means.device board.old).blocks d (B.means.flash board.old).content
+        → LeavesOnly B.means board.old board.new (Holds (B.means.device board.old).blocks d) }
+    ensures touches { Touches B.means is_root_block (repair_work votes.now.votes root)
+        (repair_work votes.now.votes root) 5 board.old board.new }
+    ensures no_fault { OnOk result
+        ((B.means.counts board.new).flash_faults ≡ (B.means.counts board.old).flash_faults) }
+    ensures cause { OnErr result
+        (Rose (B.means.counts board.old).flash_faults (B.means.counts board.new).flash_faults) }
+{
+    if votes.are_all(root) {
+        return Ok(());
+    }
+    board.barrier()?;
+    repair(board, votes, root)?;
+    Ok(())
+}
+
+/// Writes a checkpoint of 1 to 20,476 octets into the half that `root` does not name, makes that
+/// half count, and returns the root that names it. `root` is the one that the votes agree on, or
+/// the first of their split. `Failed`: a call of the board failed; the journal may then begin in
+/// either half.
+pub fn switch<B: Board>(
+    board: &mut B,
+    votes: &Votes,
+    root: Root,
+    checkpoint: &[u8],
+) -> Result<Root, Failed>
+    requires leads { LeadsTo root (choice_of_votes votes.now.votes) }
+    requires shortest { 1 ≤ length checkpoint.now }
+    requires longest { length checkpoint.now ≤ 20476 }
+
+    ensures next { IfOk result (λ to. to ≡ next_of root) }
+    ensures seen { OnOk result (TellsFlash B.means board.old → B.means.images
+        board.new (B.means.moment board.new) (B.means.flash board.new).content) }
+    ensures journal { OnOk result (TellsFlash B.means board.old
+        → is_own (B.means.device board.old).blocks root ≡ true → (d : Directory)
+        → directory_by (B.means.device board.old).blocks checkpoint.now [] ≡ Some d
+        → IsJournal (B.means.device board.old).blocks (next_of root) d
+        (payload_pages (length checkpoint.now)) (B.means.flash board.new)) }
+
+    // Also if it failed, each image holds the directory that the flash held, if the checkpoint
+    // spells it.
+    ensures any_moment { TellsFlash B.means board.old
+        → AreVotes votes.now.votes (B.means.flash board.old).content
+        → FirmJournal (B.means.flash board.old) → (d : Directory)
+        → Holds (B.means.device board.old).blocks d (B.means.flash board.old).content
+        → directory_by (B.means.device board.old).blocks checkpoint.now [] ≡ Some d
+        → LeavesOnly B.means board.old board.new (Holds (B.means.device board.old).blocks d) }
+
+    ensures touches { Touches B.means (switch_pages root)
+        (repair_work votes.now.votes root + (payload_pages (length checkpoint.now) + 3))
+        (repair_work votes.now.votes root + 5) 13 board.old board.new }
+    ensures no_fault { OnOk result
+        ((B.means.counts board.new).flash_faults ≡ (B.means.counts board.old).flash_faults) }
+    ensures cause { OnErr result
+        (Rose (B.means.counts board.old).flash_faults (B.means.counts board.new).flash_faults) }
+{
+    unite(board, votes, root)?;
+    let to = turn(board, root, checkpoint)?;
+    Ok(to)
+}
