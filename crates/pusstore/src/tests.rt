@@ -50,12 +50,28 @@ fn a_session_prints_what_its_text_asks_for(rt: HostRuntime) -> Result<(), Fail> 
 #[test]
 fn a_session_in_a_file_writes_what_its_text_asks_for(rt: HostRuntime) -> Result<(), Fail> {
     let path = "pusstore_test_output";
+    let device = "pusstore_test_device";
+    let words = fresh(rt.alloc())?;
+    let output = File::create(&rt, path)?;
+    let image = open_image(&rt, device, true)?;
+    let mut board = FileBoard::new(image.file, image.blocks, output);
+    let ending = file_session(rt.alloc(), &words, TEXT, &mut board);
+    assert_eq!(rt; ending, Ending::Done);
+    assert_eq!(rt; fs::read(&rt, path)?.as_slice(), SENT);
+    fs::remove_file(&rt, path)?;
+    fs::remove_file(&rt, device)?;
+    Ok(())
+}
+
+#[test]
+fn a_session_in_a_file_that_takes_no_writes_sends_nothing(rt: HostRuntime) -> Result<(), Fail> {
+    let path = "pusstore_test_nothing";
     let words = fresh(rt.alloc())?;
     let output = File::create(&rt, path)?;
     let mut board = FileBoard::new(File::open(&rt, "/dev/null")?, 16, output);
     let ending = file_session(rt.alloc(), &words, TEXT, &mut board);
-    assert_eq!(rt; ending, Ending::Done);
-    assert_eq!(rt; fs::read(&rt, path)?.as_slice(), SENT);
+    assert_eq!(rt; ending, Ending::FlashFault);
+    assert_eq!(rt; fs::read(&rt, path)?.as_slice(), b"".as_slice());
     fs::remove_file(&rt, path)?;
     Ok(())
 }

@@ -1,7 +1,7 @@
 // Worked sessions: what is sent, and how they end.
 
 use super::*;
-use board::{CallKind, MemBoard, MemSource};
+use board::{Board, CallKind, MemBoard, MemSource};
 use session_text::LineFault;
 use space_packet::PacketFault;
 use std::alloc::{AllocError, Global};
@@ -147,6 +147,51 @@ fn a_failing_take_or_send_ends_the_session(rt: HostRuntime) -> Result<(), Fail> 
     Ok(())
 }
 
+// The front of a root page of generation 0 on a device of 16 blocks.
+const ROOT: [u8; 21] = *b"PUSSTORE\x01\x00\x00\x00\x10\x00\x00\x00\x00\x00\x00\x00\x00";
+
+#[test]
+fn a_format_writes_the_roots_and_reads_no_text(rt: HostRuntime) -> Result<(), Fail> {
+    let alloc = rt.alloc();
+    let text = Vec::from_slice(alloc, b"no command")?;
+    let mut rehearsal = rehearse(alloc, &words(alloc, &["format"])?, 16, text)?;
+    assert_eq!(rt; rehearsal.ending, Ending::Done);
+    assert_eq!(rt; rehearsal.board.sent().len(), 0);
+    let mut page = [0; 256];
+    for block in 0..3 {
+        rehearsal.board.read_page(block, 0, &mut page)?;
+        assert!(rt; page.starts_with(&ROOT), "block {block}");
+    }
+    Ok(())
+}
+
+// How a session ends, and what it sends, where one call of the flash fails.
+fn flash_fails(alloc: Global, kind: CallKind, number: u64) -> Result<(Ending, usize), AllocError> {
+    let mut board = MemBoard::new(alloc, 16)?;
+    board.plan(kind, number)?;
+    let text = format!(in alloc; "A 000000000010 {FRONT}aa\nG 000000000011\n")?;
+    let mut source = MemSource::new(Vec::from_slice(alloc, text.as_bytes())?);
+    let ending = station(alloc, &words(alloc, &["fresh"])?, &mut source, &mut board);
+    Ok((ending, board.sent().len()))
+}
+
+#[test]
+fn a_flash_that_fails_ends_the_session_before_its_text(rt: HostRuntime) -> Result<(), Fail> {
+    for (kind, calls) in [
+        (CallKind::Program, 4),
+        (CallKind::Erase, 5),
+        (CallKind::Barrier, 8),
+    ] {
+        for number in [1, calls] {
+            let found = flash_fails(rt.alloc(), kind, number)?;
+            assert!(rt; found == (Ending::FlashFault, 0), "call {number} of {kind:?}");
+        }
+        let found = flash_fails(rt.alloc(), kind, calls + 1)?;
+        assert!(rt; found == (Ending::Done, 43), "one call of {kind:?} more");
+    }
+    Ok(())
+}
+
 #[test]
 fn other_words_are_refused(rt: HostRuntime) -> Result<(), Fail> {
     let alloc = rt.alloc();
@@ -154,6 +199,7 @@ fn other_words_are_refused(rt: HostRuntime) -> Result<(), Fail> {
         [].as_slice(),
         &["run"],
         &["fresh", "fresh"],
+        &["format", "fresh"],
         &["fresh "],
         &["Fresh"],
         &[""],
@@ -206,6 +252,7 @@ fn endings_have_their_statuses(rt: HostRuntime) {
         (Ending::Done, 0),
         (Ending::BadWords, 1),
         (Ending::BadLine { line: 1, why }, 2),
+        (Ending::FlashFault, 4),
         (Ending::LinkFault, 5),
         (Ending::SourceFault, 6),
         (Ending::NoMemory, 8),
