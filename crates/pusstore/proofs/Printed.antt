@@ -1,7 +1,7 @@
 -- What a program printed, of what its device was sent.
-use Rattle.std.proofs.Common.{◌≡◌, ◌≢◌, ◌⊎◌, ℕ, Bool, true, false, List, [], ◌++◌, Some, None, refl, sym, ◌∙◌, ap, subst, arith, inl, inr, ⊎_elim}
+use Rattle.std.proofs.Common.{◌≡◌, ◌⊎◌, ℕ, Bool, true, false, List, [], ◌++◌, Some, None, refl, sym, ◌∙◌, ap, subst, arith, inl, inr, ⊎_elim}
 use Rattle.std.proofs.lemmas.List.{append-nil}
-use Rattle.std.specs.Prelude.{IsTrue, Option, ⊤, length, take, ◌-◌}
+use Rattle.std.specs.Prelude.{IsTrue, Option, length, take, ◌-◌}
 use Rattle.std.specs.Io.KnownBytes.{Appends}
 use Rattle.board.specs.declared.memory.MemBoard.{MemBoard}
 use Rattle.board.specs.Flash.{blank}

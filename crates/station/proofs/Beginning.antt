@@ -1,8 +1,6 @@
 -- What a session comes to before its first command.
 use Rattle.std.proofs.Common.{◌≡◌, ℕ, Bool, ◌++◌, ◌-◌, List, [], length, take, refl, sym, ap, arith}
 use Rattle.std.proofs.lemmas.List.{append-nil}
-use Rattle.std.specs.Prelude.{IsTrue}
-use Rattle.board.specs.Counts.{Sends}
 use Rattle.board.specs.Meaning.{BoardMeaning, SourceMeaning}
 use Rattle.board.proofs.Runs.{gains_none, started}
 use Rattle.handler.specs.Sending.{SendsLines}

@@ -1,11 +1,10 @@
 -- What a session does to its device: a format, and then a text.
-use Rattle.std.proofs.Common.{◌≡◌, ◌≢◌, ℕ, Bool, ◌+◌, ◌≤◌, List, ◌++◌, Some, length, refl, sym, ◌∙◌, ap, subst, arith}
-use Rattle.std.specs.Prelude.{IsTrue}
+use Rattle.std.proofs.Common.{◌≡◌, ℕ, Bool, ◌≤◌, List, ◌++◌, Some, length, sym, ◌∙◌, ap, subst, arith}
 use Rattle.board.specs.Counts.{Counts, Rose, RoseBy, Sends, Works}
 use Rattle.board.specs.Device.{Device}
-use Rattle.board.specs.Flash.{Flash, IsImage, loosened}
+use Rattle.board.specs.Flash.{IsImage}
 use Rattle.board.specs.Meaning.{BoardMeaning, SourceMeaning, TellsFlash, TellsLink}
-use Rattle.board.specs.Moments.{GainsFront, LeavesOnly, SendsOnly}
+use Rattle.board.specs.Moments.{GainsFront, SendsOnly}
 use Rattle.board.specs.Reads.{FlashStays}
 use Rattle.board.specs.Touches.{Touches}
 use Rattle.board.proofs.Pages.{image_of_loosened}
@@ -98,7 +97,7 @@ module _ {B : Type 0} (means : BoardMeaning B) (old mid new : B) (format : Touch
       → (TellsLink means mid → (t : ℕ) → t ≤ means.moment mid → means.sent new t ≡ means.sent mid t)
       → (TellsFlash means old → IsFormatted (means.device old).blocks (means.flash mid))
       → (TellsFlash means old → (image : ℕ → List ℕ) → IsImage (means.device old).blocks (means.flash mid) image
-          → directory_of (means.device old).blocks image ≡ Some first_directory)
+      → directory_of (means.device old).blocks image ≡ Some first_directory)
       → TellsFlash means old → HoldsFormat means old new
   holds_format stays past formatted holds told =
       let still = stays (tells_too format.same told) in

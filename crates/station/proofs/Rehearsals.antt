@@ -1,18 +1,17 @@
 -- A session in memory: what holds of any board and source, of those that were just made.
-use Rattle.std.proofs.Common.{◌≡◌, ◌≢◌, ◌⊎◌, ℕ, ◌≤◌, true, false, List, [], ◌∷◌, Some, ◌++◌, length, refl, sym, ◌∙◌, ap, subst, arith, inl, inr, ⊎_elim}
+use Rattle.std.proofs.Common.{◌≡◌, ◌≢◌, ◌⊎◌, ℕ, ◌≤◌, true, List, [], ◌∷◌, Some, ◌++◌, length, refl, sym, ◌∙◌, ap, subst, arith, inl, inr, ⊎_elim}
 use Rattle.std.proofs.lemmas.Bool.{cases_lt}
 use Rattle.std.specs.Prelude.{⊤}
 use Rattle.board.specs.declared.memory.MemBoard.{MemBoard}
 use Rattle.board.specs.declared.memory_source.MemSource.{MemSource}
 use Rattle.board.specs.Counts.{Counts, Rose, RoseBy}
 use Rattle.board.specs.Device.{Device}
-use Rattle.board.specs.Flash.{Flash, blank}
-use Rattle.board.specs.Memory.{IsNewBoard, counts_of, flash_of, image_at, memory_means, moment_of, sent_at, telling}
+use Rattle.board.specs.Flash.{blank}
+use Rattle.board.specs.Memory.{IsNewBoard, counts_of, flash_of, image_at, memory_means, moment_of, sent_at}
 use Rattle.board.specs.MemorySource.{IsNewSource, faults_of, left_of, text_means}
 use Rattle.board.specs.Moments.{IsPrefixOf, SendsOnly}
 use Rattle.meta_journal.specs.Directories.{directory_of}
 use Rattle.meta_journal.specs.Formats.{IsFormatted}
-use Rattle.meta_journal.specs.Halves.{format_pages}
 use Rattle.pst_model.specs.Rules.{Output}
 use Rattle.pst_model.specs.Run.{lines_of}
 use Rattle.station.specs.declared.ending.Ending.{Ending}
@@ -97,7 +96,7 @@ module _ (text : List ℕ) (ending : Ending) (blocks : ℕ) (board board' : MemB
       → SendsOnly memory_means board board' (MayBeSent true (read_of (left_of source) (left_of source')) (sent_at board (moment_of board)))
       → (ending ≢ BadWords → ending ≢ FlashFault → HoldsFormat memory_means board board')
       → ((Rose (counts_of board).flash_faults (counts_of board').flash_faults → ⊥) → (Rose (counts_of board).link_faults (counts_of board').link_faults → ⊥)
-          → (Rose (faults_of source) (faults_of source') → ⊥) → EndsAsTold (left_of source) ending)
+      → (Rose (faults_of source) (faults_of source') → ⊥) → EndsAsTold (left_of source) ending)
       → KeepsPages memory_means text_means board board' source source'
       → Rehearsed blocks text ending board' source'
   rehearsed known taken reading sending moments holds complete keeps = record {

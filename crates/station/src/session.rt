@@ -7,8 +7,8 @@ ghost use Rattle.station.specs.Promises.{FormatsOnly, HoldsFormat, KeepsPages, L
 ghost use Rattle.station.specs.Session.{EndsAsTold, EndsReading, EndsSending, MayBeSent, read_of, taken_of};
 ghost use Rattle.station.specs.Words.{AreFormat, AreFresh, AreKnown, texts_of};
 
-use crate::ending::Ending;
 use crate::carrying::carry_out_text;
+use crate::ending::Ending;
 use crate::words::{are_format, are_fresh};
 use board::{Board, Source};
 use meta_journal::format;

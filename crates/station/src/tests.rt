@@ -184,7 +184,10 @@ fn a_flash_that_fails_ends_the_session_before_its_text(rt: HostRuntime) -> Resul
     ] {
         for number in [1, calls] {
             let found = flash_fails(rt.alloc(), kind, number)?;
-            assert!(rt; found == (Ending::FlashFault, 0), "call {number} of {kind:?}");
+            assert!(rt;
+                found == (Ending::FlashFault, 0),
+                "call {number} of {kind:?}"
+            );
         }
         let found = flash_fails(rt.alloc(), kind, calls + 1)?;
         assert!(rt; found == (Ending::Done, 43), "one call of {kind:?} more");

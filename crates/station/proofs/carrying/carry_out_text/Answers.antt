@@ -1,4 +1,3 @@
-use Rattle.std.proofs.Common.{[]}
 use Rattle.handler.proofs.Sendings.{lines_none}
 use Rattle.station.specs.Session.{Ended}
 use Rattle.station.specs.declared.ending.Ending.TheVariants.{NoMemory}

@@ -1,4 +1,4 @@
-use Rattle.std.proofs.Common.{◌≤◌, [], refl, arith}
+use Rattle.std.proofs.Common.{[], refl, arith}
 use Rattle.board.proofs.Runs.{started}
 use Rattle.board.proofs.Touching.{touches_most, touches_none}
 use Rattle.handler.specs.Sending.{SendsLines}
