@@ -25,15 +25,15 @@ moment_of board = length board.steps.items
 abbrev pub sent_at : HalfBoard → ℕ → List ℕ
 sent_at board t = take (sum (take t board.steps.items)) board.sent.items
 
--- how often flash and link have failed, and how often the link was called; no flash call does any work
+-- how often flash and link have failed, and how often each was called; no page is ever read
 abbrev pub counts_of : HalfBoard → Counts
 counts_of board = record {
   flash_faults = board.flash_faults;
   link_faults = board.link_faults;
   reads = 0;
-  programs = 0;
-  erases = 0;
-  barriers = 0;
+  programs = board.programs;
+  erases = board.erases;
+  barriers = board.barriers;
   sends = board.made;
 }
 

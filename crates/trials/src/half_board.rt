@@ -15,6 +15,9 @@ pub struct HalfBoard {
     sent: Vec<u8>,
     flash_faults: u64,
     link_faults: u64,
+    programs: u64,
+    erases: u64,
+    barriers: u64,
     made: u64,
     planned: Option<u64>,
     starved: bool,
@@ -68,6 +71,9 @@ impl HalfBoard {
             sent: Vec::new(alloc),
             flash_faults: 0,
             link_faults: 0,
+            programs: 0,
+            erases: 0,
+            barriers: 0,
             made: 0,
             planned: None,
             starved: false,
@@ -129,14 +135,17 @@ impl Board for HalfBoard {
     }
 
     fn program(&mut self, _block: u32, _page: u32, _from: &[u8]) -> Result<(), Failed> {
+        self.programs = self.programs.saturating_add(1);
         Ok(())
     }
 
     fn erase(&mut self, _block: u32) -> Result<(), Failed> {
+        self.erases = self.erases.saturating_add(1);
         Ok(())
     }
 
     fn barrier(&mut self) -> Result<(), Failed> {
+        self.barriers = self.barriers.saturating_add(1);
         Ok(())
     }
 
