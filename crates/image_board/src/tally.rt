@@ -22,6 +22,7 @@ pub struct Tally {
 impl Tally {
     ghost use Rattle.image_board.specs.Counting.{no_counts, counts_in};
 
+    /// No faults and no calls.
     pub fn new() -> Tally
         ensures { counts_in result ≡ no_counts }
     {

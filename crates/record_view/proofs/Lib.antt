@@ -1,3 +1,4 @@
 pub mod Spelling
 pub mod Walking
 pub mod Placing
+pub mod Windows

@@ -7,7 +7,7 @@ use board::{Board, CallKind, Failed, MemBoard, Torn};
 use std::alloc::Global;
 use std::test::Fail;
 
-const TORN: [Torn; 5] = [
+pub(crate) const TORN: [Torn; 5] = [
     Torn::Done,
     Torn::Undone,
     Torn::Fill(0),
@@ -15,10 +15,15 @@ const TORN: [Torn; 5] = [
     Torn::Fill(255),
 ];
 
-const KINDS: [CallKind; 3] = [CallKind::Program, CallKind::Erase, CallKind::Barrier];
+// The kinds of call, and how many of each rewrite three pages.
+pub(crate) const KINDS: [(CallKind, u64); 3] = [
+    (CallKind::Program, 3),
+    (CallKind::Erase, 3),
+    (CallKind::Barrier, 6),
+];
 
 // The root of a device of 16 blocks with this generation.
-fn root(generation: u64) -> Root {
+pub(crate) fn root(generation: u64) -> Root {
     Root {
         generation,
         blocks: 16,
@@ -31,7 +36,7 @@ fn choice_of(votes: [Option<Root>; 3]) -> Choice {
 }
 
 // Rewrites the root pages that differ from what they agree on, and answers it.
-fn unite<B: Board>(board: &mut B) -> Result<Option<Root>, Failed> {
+pub(crate) fn unite<B: Board>(board: &mut B) -> Result<Option<Root>, Failed> {
     let votes = read_roots(board)?;
     match votes.choice() {
         Choice::Agreed(root) => {
@@ -106,7 +111,7 @@ fn equality_alone_decides(rt: HostRuntime) {
 }
 
 // Puts octets into an image.
-fn put(image: &mut [u8], at: usize, octets: &[u8]) {
+pub(crate) fn put(image: &mut [u8], at: usize, octets: &[u8]) {
     for (place, octet) in image.iter_mut().skip(at).zip(octets) {
         *place = *octet;
     }
@@ -195,8 +200,8 @@ fn survives(alloc: Global, kind: CallKind, number: u64) -> Result<bool, Fail> {
 
 #[test]
 fn each_failing_call_leaves_a_choice_that_is_repaired(rt: HostRuntime) -> Result<(), Fail> {
-    for kind in KINDS {
-        for number in 1..4 {
+    for (kind, calls) in KINDS {
+        for number in 1..=calls {
             assert!(rt;
                 survives(rt.alloc(), kind, number)?,
                 "call {number} of {kind:?}"

@@ -9,7 +9,7 @@ use control_defs::{Pattern, StoreKind};
 use octet_fields::put_u8;
 use record_view::Link;
 
-const ROW: Row = Row {
+pub(crate) const ROW: Row = Row {
     identifier: 1,
     kind: StoreKind::Circular,
     size: 64,

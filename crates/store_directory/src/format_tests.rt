@@ -2,10 +2,11 @@
 // thing.
 
 use crate::change::Change;
+use crate::checkpoint_tests::ROW;
 use crate::directory::Directory;
 use crate::first_checkpoint::write_first_checkpoint;
 use crate::row::Row;
-use control_defs::{Pattern, StoreKind};
+use control_defs::Pattern;
 use std::test::Fail;
 
 // The time, the reports, no forward pattern, one store with its row, one pattern and no link.
@@ -22,20 +23,6 @@ fn a_first_checkpoint_has_47_octets_and_four_for_each_block(rt: HostRuntime) {
     assert!(rt; out.iter().skip(47).take(64).all(|octet| *octet == 0));
     assert!(rt; out.iter().skip(111).all(|octet| *octet == 7));
 }
-
-const ROW: Row = Row {
-    identifier: 1,
-    kind: StoreKind::Circular,
-    size: 64,
-    channel: 1,
-    storage: true,
-    open_on: true,
-    told: false,
-    first: 0,
-    count: 1,
-    behind: 0,
-    range: None,
-};
 
 #[test]
 fn directories_are_the_same_by_what_they_hold(rt: HostRuntime) -> Result<(), Fail> {
