@@ -1,0 +1,10 @@
+pub mod BlockPages
+pub mod Eachs
+pub mod Records
+pub mod More
+pub mod Counting
+pub mod Trims
+pub mod Moved
+pub mod Frames
+pub mod Blocks
+pub mod Going
