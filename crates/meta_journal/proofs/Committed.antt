@@ -89,14 +89,21 @@ module _ (blocks : ℕ) (flash : Flash) (root : Root) (d : Directory) (at : ℕ)
     before_out : (q : ℕ) → q < at → entry_pages base at entry (base + q) ≡ false
     before_out q lt = below_pages (base + at) (1 + payload_pages (length entry)) (base + q) (omega arith)
 
-    pub commit_holds : (image : ℕ → List ℕ) → IsBeforeOrAfter blocks flash base journal.start journal.entries at entry image → HoldsEither blocks d after image
-    commit_holds image (inl is) = inl (holds_these image journal.entries at d
-        (λ k lt. page_left blocks (entry_pages base at entry) flash image (256 * k) (omega arith) (root_out k lt) (journal.rooted.firm_roots k lt) is.elsewhere)
-        (λ q lt. page_left blocks (entry_pages base at entry) flash image (base + q) (omega arith) (before_out q lt) (journal.is_firm (base + q) (omega arith)) is.elsewhere)
-        is.has journal.holds)
-    commit_holds image (inr is) = inr (holds_these image (journal.entries ++ entry ∷ []) (at + 1 + payload_pages (length entry)) after
-        (λ k lt. is.elsewhere (256 * k) (omega arith) (root_out k lt)) (λ q lt. is.elsewhere (base + q) (omega arith) (before_out q lt)) is.has
-        (directory_more blocks journal.text journal.entries entry d after journal.holds more))
+    pub commit_holds : (image : ℕ → List ℕ) → IsBeforeOrAfter blocks flash base journal.start journal.entries at entry image → HoldsEither blocks (entry_pages base at entry) flash d after image
+    commit_holds image (inl is) = inl (record {
+      elsewhere = is.elsewhere;
+      holds = holds_these image journal.entries at d
+          (λ k lt. page_left blocks (entry_pages base at entry) flash image (256 * k) (omega arith) (root_out k lt) (journal.rooted.firm_roots k lt) is.elsewhere)
+          (λ q lt. page_left blocks (entry_pages base at entry) flash image (base + q) (omega arith) (before_out q lt) (journal.is_firm (base + q) (omega arith)) is.elsewhere)
+          is.has journal.holds;
+    })
+    commit_holds image (inr is) = inr (record {
+      pages = is.pages;
+      elsewhere = is.elsewhere;
+      holds = holds_these image (journal.entries ++ entry ∷ []) (at + 1 + payload_pages (length entry)) after
+          (λ k lt. is.elsewhere (256 * k) (omega arith) (root_out k lt)) (λ q lt. is.elsewhere (base + q) (omega arith) (before_out q lt)) is.has
+          (directory_more blocks journal.text journal.entries entry d after journal.holds more);
+    })
 
     -- the journal with the entry
     pub journal_more : (new : Flash) → new ≡ with_entry base at entry flash → ((p : ℕ) → entry_pages base at entry p ≡ false → new.content p ≡ flash.content p)

@@ -16,7 +16,7 @@ use Rattle.store_directory.specs.Same.{same_directory}
 use Rattle.meta_journal.specs.Directories.{directory_in, directory_of}
 
 -- an image of blank pages but for these
-abbrev image_of : List (ℕ × List ℕ) → ℕ → List ℕ
+abbrev pub image_of : List (ℕ × List ℕ) → ℕ → List ℕ
 image_of [] p = blank
 image_of (page ∷ pages) p = if p == page.0 then page.1 else image_of pages p
 
@@ -26,17 +26,17 @@ root_with version blocks generation behind =
     80 ∷ 85 ∷ 83 ∷ 83 ∷ 84 ∷ 79 ∷ 82 ∷ 69 ∷ version ∷ 0 ∷ 0 ∷ 0 ∷ blocks
     ∷ replicate 7 0 ++ generation ∷ behind ∷ replicate 234 0
 
-abbrev root : (generation : ℕ) → List ℕ
+abbrev pub root : (generation : ℕ) → List ℕ
 root generation = root_with 1 16 generation 0
 
 -- the checkpoint of a format of 16 blocks: its length, the head, the store with its pattern, the counts
-abbrev first_page : List ℕ
+abbrev pub first_page : List ℕ
 first_page =
     (0 ∷ 0 ∷ 0 ∷ 111 ∷ replicate 9 0)
     ++ (1 ∷ 0 ∷ 1 ∷ 0 ∷ 0 ∷ 0 ∷ 0 ∷ 64 ∷ 1 ∷ 3 ∷ replicate 20 0) ++ 1 ∷ replicate 212 0
 
 -- a page of 256 octets 0x5a, and one that spells an entry: now 16, one report
-abbrev gate : List ℕ
+abbrev pub gate : List ℕ
 gate = replicate 256 90
 
 abbrev clock : List ℕ
@@ -46,10 +46,10 @@ abbrev later_directory : Directory
 later_directory = record first_directory { now = 16; reports = 1 }
 
 -- after a format, with roots in these pages
-abbrev rooted_by : (first middle last : List ℕ) → List (ℕ × List ℕ)
+abbrev pub rooted_by : (first middle last : List ℕ) → List (ℕ × List ℕ)
 rooted_by first middle last = (0, first) ∷ (256, middle) ∷ (512, last) ∷ (768, first_page) ∷ []
 
-abbrev formatted : List (ℕ × List ℕ)
+abbrev pub formatted : List (ℕ × List ℕ)
 formatted = rooted_by (root 0) (root 0) (root 0)
 
 -- a blank device

@@ -9,3 +9,4 @@ pub mod Formatted
 pub mod Committed
 pub mod Written
 pub mod Switched
+pub mod Staying

@@ -1,7 +1,7 @@
 -- The journal that a flash keeps, and what images hold while it changes.
-use Rattle.std.specs.Prelude.{◌≡◌, ◌⊎◌, ℕ, ◌+◌, ◌%◌, ◌^◌, ◌<◌, true, false, Bool, ◌||◌}
+use Rattle.std.specs.Prelude.{◌≡◌, ◌⊎◌, ℕ, ◌+◌, ◌*◌, ◌%◌, ◌^◌, ◌<◌, true, false, Bool, ◌||◌}
 use Rattle.std.specs.Prelude.{if◌then◌else◌, List, Option, Some}
-use Rattle.board.specs.Flash.{Flash}
+use Rattle.board.specs.Flash.{Flash, IsContent, IsImage, loosened}
 use Rattle.commit_gate.specs.Commits.{IsCleanFrom, Stands}
 use Rattle.commit_gate.specs.Entries.{Entry, text_at}
 use Rattle.root_vote.specs.declared.root.Root.{Root}
@@ -34,9 +34,25 @@ pub record IsJournal (blocks : ℕ) (root : Root) (d : Directory) (at : ℕ) (fl
 abbrev pub Holds : (blocks : ℕ) → Directory → (ℕ → List ℕ) → Type 0
 Holds blocks d image = directory_of blocks image ≡ Some d
 
+-- The image holds the directory from before these pages were written, and each other page that was
+-- firm is as it was.
+pub record HoldsBefore (blocks : ℕ) (these : ℕ → Bool) (flash : Flash) (before : Directory)
+    (image : ℕ → List ℕ) : Type 0 where
+  pub holds : Holds blocks before image
+  pub elsewhere : IsImage blocks (loosened these flash) image
+
+-- It holds the one behind, and each other page is as it was, also one that had been loose.
+pub record HoldsAfter (blocks : ℕ) (these : ℕ → Bool) (flash : Flash) (after : Directory)
+    (image : ℕ → List ℕ) : Type 0 where
+  pub holds : Holds blocks after image
+  pub pages : IsContent blocks image
+  pub elsewhere : (p : ℕ) → p < 256 * blocks → these p ≡ false → image p ≡ flash.content p
+
 -- it holds the one or the other
-abbrev pub HoldsEither : (blocks : ℕ) → (before after : Directory) → (ℕ → List ℕ) → Type 0
-HoldsEither blocks before after image = Holds blocks before image ⊎ Holds blocks after image
+abbrev pub HoldsEither : (blocks : ℕ) → (these : ℕ → Bool) → Flash → (before after : Directory)
+    → (ℕ → List ℕ) → Type 0
+HoldsEither blocks these flash before after image =
+    HoldsBefore blocks these flash before image ⊎ HoldsAfter blocks these flash after image
 
 -- the root behind one, which names the other half: the generation behind the greatest is 0
 abbrev pub next_of : Root → Root

@@ -37,12 +37,15 @@ pub fn commit<B: Board>(board: &mut B, root: Root, at: u32, entry: &[u8]) -> Res
         → IsJournal (B.means.device board.old).blocks root after
         (at + 1 + payload_pages (length entry.now)) (B.means.flash board.new)) }
 
-    // Also if it failed, each image holds the directory without the entry or with it.
+    // Also if it failed, each image holds the directory without the entry, or the one with it, and
+    // then each other page is as it was written before.
     ensures any_moment { TellsFlash B.means board.old → (before after : Directory)
         → IsJournal (B.means.device board.old).blocks root before at (B.means.flash board.old)
         → fold_entry before entry.now ≡ Some after
         → LeavesOnly B.means board.old board.new
-        (HoldsEither (B.means.device board.old).blocks before after) }
+        (HoldsEither (B.means.device board.old).blocks
+        (entry_pages (half_base (half_of root)) at entry.now) (B.means.flash board.old)
+        before after) }
 
     ensures touches { Touches B.means (entry_pages (half_base (half_of root)) at entry.now)
         (1 + payload_pages (length entry.now)) 0 2 board.old board.new }

@@ -1,6 +1,7 @@
 // Laws on the directory that an image holds.
-ghost use Rattle.std.specs.Prelude.{◌≡◌, ◌≤◌, ℕ, List, Some, true};
+ghost use Rattle.std.specs.Prelude.{◌≡◌, ◌≤◌, ◌<◌, ℕ, Bool, List, Some, false, true};
 ghost use Rattle.board.specs.Flash.{Flash, IsImage};
+ghost use Rattle.board.specs.Touches.{KeptElsewhere};
 ghost use Rattle.root_vote.specs.declared.root.Root.{Root};
 ghost use Rattle.root_vote.specs.Rooted.{IsBetween, IsRepaired, Rooted};
 ghost use Rattle.root_vote.specs.Roots.{choice_of};
@@ -50,4 +51,12 @@ pub fn journals_hold_their_directory()
     ensures { (blocks : ℕ) (flash : Flash) (root : Root) (d : Directory) (at : ℕ)
         (image : ℕ → List ℕ) → 16 ≤ blocks → at ≤ 512 → IsJournal blocks root d at flash
         → IsImage blocks flash image → directory_of blocks image ≡ Some d }
+{}
+
+/// A flash keeps its journal while the blocks 0 to 6 are as they are.
+pub fn other_blocks_may_change()
+    ensures { (blocks : ℕ) (root : Root) (d : Directory) (at : ℕ) (these : ℕ → Bool)
+        (flash new : Flash) → at ≤ 512 → ((p : ℕ) → p < 1792 → these p ≡ false)
+        → KeptElsewhere these flash new → IsJournal blocks root d at flash
+        → IsJournal blocks root d at new }
 {}

@@ -1,21 +1,19 @@
 -- What a store keeps that begins a block, or whose last block is another one.
-use Rattle.std.proofs.Common.{◌≡◌, ℕ, zero, suc, ◌+◌, ◌-◌, ◌%◌, ◌<◌, ◌≤◌, ◌&&◌, ◌==◌, nat_le, nat_lt, Bool, true, false, not, List, [], ◌∷◌, ◌++◌, All, length, drop, Option, Some, refl, sym, ◌∙◌, ap, subst, arith, append_assoc, append-nil}
+use Rattle.std.proofs.Common.{◌≡◌, ℕ, zero, suc, ◌+◌, ◌%◌, ◌<◌, ◌≤◌, ◌&&◌, nat_le, nat_lt, true, false, not, List, [], ◌∷◌, ◌++◌, length, drop, Some, refl, sym, ◌∙◌, ap, subst, arith, append-nil}
 use Rattle.std.proofs.lemmas.Bool.{le-leb}
 use Rattle.std.proofs.lemmas.Bool.Decides.{nat_tests}
-use Rattle.std.proofs.lemmas.List.Elements.{All-head, All-tail}
 use Rattle.std.proofs.lemmas.Option.{same_Some}
 use Rattle.space_packet.specs.Charge.{charge_of}
 use Rattle.record_view.specs.Records.{Meaning, number_after, record_at}
 use Rattle.record_view.specs.declared.link.Link.{Link}
 use Rattle.store_directory.specs.Directory.{swap_last}
-use Rattle.store_directory.specs.Options.{◌>>=◌}
 use Rattle.store_directory.specs.Rows.{between, is_by}
 use Rattle.store_directory.specs.declared.row.Row.{Row}
 use Rattle.store_directory.proofs.Steps.{some_then}
 use Rattle.store_load.specs.Each.{each}
-use Rattle.store_load.specs.Extents.{all_records, block_octets, end_of, extent_to, extents_from, extents_of, extents_to, joined, last_of, last_read, pages_in, read_extent}
-use Rattle.store_load.specs.Keeping.{IsLinkOf, Keeps}
-use Rattle.store_load.specs.Kept.{are_filled, are_short, begins_well, dead_by, kept_of, live_of, rise_to}
+use Rattle.store_load.specs.Extents.{all_records, block_octets, end_of, extent_to, extents_from, extents_to, joined, last_of, last_read, pages_in, read_extent}
+use Rattle.store_load.specs.Keeping.{Keeps}
+use Rattle.store_load.specs.Kept.{are_filled, are_short, begins_well, dead_by, kept_of}
 use Rattle.store_load.specs.declared.rule.Rule.{Rule}
 use Rattle.store_load.proofs.Counting.{KeptAre, kept_parts, parts_kept}
 use Rattle.store_load.proofs.Eachs.{both, each_cons, each_more, one, two}

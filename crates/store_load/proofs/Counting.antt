@@ -1,5 +1,5 @@
 -- A row counts the records of its store.
-use Rattle.std.proofs.Common.{◌≡◌, ℕ, zero, suc, ◌+◌, ◌-◌, ◌*◌, ◌/◌, ◌%◌, ◌^◌, ◌<◌, ◌≤◌, ◌&&◌, ◌==◌, nat_le, nat_lt, Bool, true, false, not, List, [], ◌∷◌, ◌++◌, All, length, drop, Option, Some, refl, sym, ◌∙◌, ap, subst, arith, length-append, length-drop, eqb-true}
+use Rattle.std.proofs.Common.{◌≡◌, ℕ, suc, ◌+◌, ◌-◌, ◌*◌, ◌%◌, ◌<◌, ◌≤◌, ◌&&◌, nat_le, nat_lt, true, not, List, [], ◌∷◌, All, length, Some, refl, sym, ◌∙◌, ap, subst, arith, length-append, length-drop, eqb-true}
 use Rattle.std.specs.Prelude.{⊤}
 use Rattle.std.proofs.lemmas.Bool.{and_parts}
 use Rattle.std.proofs.lemmas.Bool.Decides.{nat_tests}
@@ -8,12 +8,12 @@ use Rattle.std.proofs.lemmas.Option.{same_Some}
 use Rattle.board.specs.Flash.{IsContent}
 use Rattle.record_view.specs.Records.{Meaning}
 use Rattle.record_view.specs.declared.link.Link.{Link}
-use Rattle.store_directory.specs.Options.{◌>>=◌, given}
-use Rattle.store_directory.specs.Rows.{between, is_by, is_lawful_row, is_range}
+use Rattle.store_directory.specs.Options.{◌>>=◌}
+use Rattle.store_directory.specs.Rows.{between, is_by}
 use Rattle.store_directory.specs.declared.row.Row.{Row}
 use Rattle.store_directory.proofs.Steps.{some_then}
 use Rattle.store_load.specs.Each.{each}
-use Rattle.store_load.specs.Extents.{Extent, end_of, extent_to, extents_from, extents_of, extents_to, joined, pages_in, read_extent}
+use Rattle.store_load.specs.Extents.{end_of, extent_to, extents_from, extents_of, extents_to, joined, pages_in, read_extent}
 use Rattle.store_load.specs.Keeping.{IsLinkOf, Keeps}
 use Rattle.store_load.specs.Kept.{are_filled, are_short, begins_well, dead_by, kept_by, kept_of, live_of, may_keep, rise_to}
 use Rattle.store_load.specs.declared.rule.Rule.{Rule}

@@ -1,5 +1,5 @@
 -- A store is read from the pages of its records alone.
-use Rattle.std.proofs.Common.{◌≡◌, ℕ, ◌*◌, ◌<◌, ◌≤◌, ◌||◌, Bool, true, false, List, [], ◌∷◌, All, Option, Some, None, refl, sym, ◌∙◌, ap, ap₂, subst, arith}
+use Rattle.std.proofs.Common.{◌≡◌, ℕ, ◌*◌, ◌<◌, ◌||◌, Bool, true, List, [], ◌∷◌, All, Option, Some, refl, sym, ◌∙◌, ap, ap₂}
 use Rattle.std.specs.List.{list_any}
 use Rattle.std.proofs.lemmas.List.Elements.{All-head, All-tail}
 use Rattle.board.specs.Flash.{IsContent, pages_from}
@@ -7,23 +7,23 @@ use Rattle.record_view.specs.Records.{Meaning}
 use Rattle.record_view.specs.declared.link.Link.{Link}
 use Rattle.store_directory.specs.declared.row.Row.{Row}
 use Rattle.store_load.specs.Each.{each}
-use Rattle.store_load.specs.Extents.{Extent, end_of, extent_to, extents_from, extents_of, extents_to, pages_in, read_extent}
+use Rattle.store_load.specs.Extents.{Extent, end_of, extents_from, extents_of, read_extent}
 use Rattle.store_load.specs.Frame.{in_extent, in_store, pages_read}
-use Rattle.store_load.specs.Keeping.{IsLinkOf}
+use Rattle.store_load.specs.Keeping.{IsInDevice}
 use Rattle.store_load.specs.Kept.{kept_of}
 use Rattle.store_load.specs.declared.rule.Rule.{Rule}
 use Rattle.store_load.proofs.Counting.{kept_parts, parts_kept}
-use Rattle.store_load.proofs.Eachs.{EachIs, all_of_any, each_both, each_cons, each_same, each_weaker}
+use Rattle.store_load.proofs.Eachs.{EachIs, all_of_any, each_both, each_cons, each_same}
 use Rattle.store_load.proofs.Records.{extent_stays}
 
 -- the blocks of extents are those of their links
-pub extents_own : (blocks end : ℕ) (link : Link) (links : List Link) → All (IsLinkOf blocks) (link ∷ links)
+pub extents_own : (blocks end : ℕ) (link : Link) (links : List Link) → All (IsInDevice blocks) (link ∷ links)
     → EachIs (λ (e : Extent). e.block < blocks) (extents_from end link links)
-extents_own blocks end link [] own = ((All-head (IsLinkOf blocks) link [] own).block, tt)
+extents_own blocks end link [] own = ((All-head (IsInDevice blocks) link [] own), tt)
 extents_own blocks end link (next ∷ links) own =
-    ((All-head (IsLinkOf blocks) link (next ∷ links) own).block, extents_own blocks end next links (All-tail (IsLinkOf blocks) link (next ∷ links) own))
+    ((All-head (IsInDevice blocks) link (next ∷ links) own), extents_own blocks end next links (All-tail (IsInDevice blocks) link (next ∷ links) own))
 
-pub all_own : (blocks : ℕ) (row : Row) (links : List Link) → All (IsLinkOf blocks) links
+pub all_own : (blocks : ℕ) (row : Row) (links : List Link) → All (IsInDevice blocks) links
     → EachIs (λ (e : Extent). e.block < blocks) (extents_of row links)
 all_own blocks row [] own = tt
 all_own blocks row (link ∷ links) own = extents_own blocks (end_of row) link links own
@@ -33,7 +33,7 @@ abbrev Stays : (blocks : ℕ) → (image other : ℕ → List ℕ) → Extent �
 Stays blocks image other extent =
     (extent.block < blocks) × ((p : ℕ) → in_extent image p extent ≡ true → other p ≡ image p)
 
-any_same : {X : Type 0} (test other : X → Bool) (xs : List X) → EachIs (λ x. other x ≡ test x) xs → list_any other xs ≡ list_any test xs
+pub any_same : {X : Type 0} (test other : X → Bool) (xs : List X) → EachIs (λ x. other x ≡ test x) xs → list_any other xs ≡ list_any test xs
 any_same test other [] h = refl
 any_same test other (x ∷ xs) h = ap₂ ◌||◌ h.0 (any_same test other xs h.1)
 
@@ -49,7 +49,7 @@ module _ (blocks : ℕ) (image other : ℕ → List ℕ) (content : IsContent bl
       extent_stays blocks image other content others extent records within is
       (λ p h. same p (ap (λ (o : Option (List Meaning)). pages_from (256 * extent.block) (pages_read o) p) is ∙ h))
 
-  module _ (row : Row) (links : List Link) (own : All (IsLinkOf blocks) links)
+  module _ (row : Row) (links : List Link) (own : All (IsInDevice blocks) links)
       (same : (p : ℕ) → in_store image p row links ≡ true → other p ≡ image p) where
     stay : EachIs (Stays blocks image other) (extents_of row links)
     stay = each_both (λ (e : Extent). e.block < blocks) (λ (e : Extent). (p : ℕ) → in_extent image p e ≡ true → other p ≡ image p)

@@ -1,5 +1,5 @@
 -- The laws as they are stated.
-use Rattle.std.proofs.Common.{◌≡◌, ℕ, zero, suc, ◌+◌, ◌-◌, ◌%◌, ◌^◌, ◌<◌, ◌≤◌, ◌==◌, nat_le, nat_lt, true, List, [], ◌∷◌, ◌++◌, All, length, drop, Option, Some, refl, sym, ◌∙◌, ap, subst, arith, eqb-true}
+use Rattle.std.proofs.Common.{◌≡◌, ℕ, zero, suc, ◌+◌, ◌≤◌, List, [], ◌∷◌, ◌++◌, length, drop, Some, refl, sym, ◌∙◌, ap, subst, arith, eqb-true}
 use Rattle.std.proofs.lemmas.Bool.{eq-eqb, le-leb}
 use Rattle.std.proofs.lemmas.List.{drop_all}
 use Rattle.space_packet.specs.Charge.{charge_of}
@@ -7,9 +7,8 @@ use Rattle.record_view.specs.Records.{Meaning, record_at}
 use Rattle.record_view.specs.declared.link.Link.{Link}
 use Rattle.store_directory.specs.Directory.{swap_last, trimmed}
 use Rattle.store_directory.specs.declared.row.Row.{Row}
-use Rattle.store_load.specs.Extents.{block_octets, end_of, extent_to, extents_to, last_of, last_read, pages_in, read_extent}
+use Rattle.store_load.specs.Extents.{block_octets, end_of, extent_to, last_of, last_read, pages_in, read_extent}
 use Rattle.store_load.specs.Frame.{pages_read}
-use Rattle.store_load.specs.Each.{each}
 use Rattle.store_load.specs.Keeping.{Keeps}
 use Rattle.store_load.specs.Kept.{begins_well, kept_of}
 use Rattle.store_load.specs.Moving.{GoesOn, IsNext, last_extent, used_by}

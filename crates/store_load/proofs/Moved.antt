@@ -1,10 +1,9 @@
 -- What a store keeps whose front goes, and that has one record more.
-use Rattle.std.proofs.Common.{◌≡◌, ℕ, zero, suc, ◌+◌, ◌-◌, ◌%◌, ◌<◌, ◌≤◌, ◌&&◌, ◌==◌, nat_le, nat_lt, Bool, true, false, not, List, [], ◌∷◌, ◌++◌, All, length, drop, Option, Some, refl, sym, ◌∙◌, ap, subst, arith, length-append, eqb-true}
+use Rattle.std.proofs.Common.{◌≡◌, ℕ, zero, suc, ◌+◌, ◌-◌, ◌%◌, ◌<◌, ◌≤◌, ◌&&◌, nat_le, nat_lt, Bool, true, false, not, List, [], ◌∷◌, ◌++◌, All, length, drop, Some, refl, sym, ◌∙◌, ap, subst, arith}
 use Rattle.std.specs.Prelude.{if◌then◌else◌}
-use Rattle.std.specs.List.{list_all}
-use Rattle.std.proofs.lemmas.Bool.{and_from, and_parts, eq-eqb, le-leb, lt-ltb}
+use Rattle.std.proofs.lemmas.Bool.{le-leb, lt-ltb}
 use Rattle.std.proofs.lemmas.Bool.Decides.{nat_tests}
-use Rattle.std.proofs.lemmas.List.{drop-append-le, drop-drop, drop_all}
+use Rattle.std.proofs.lemmas.List.{drop-append-le, drop-drop}
 use Rattle.std.proofs.lemmas.List.Elements.{All-head}
 use Rattle.std.proofs.lemmas.List.Folds.{list_all-append}
 use Rattle.space_packet.specs.Charge.{charge_of}
@@ -16,7 +15,7 @@ use Rattle.store_directory.specs.declared.row.Row.{Row}
 use Rattle.store_load.specs.Each.{each}
 use Rattle.store_load.specs.Extents.{block_octets, end_of, extent_to, extents_from, extents_of, extents_to, joined, last_of, last_read, pages_in, read_extent, with_record}
 use Rattle.store_load.specs.Keeping.{IsLinkOf, Keeps}
-use Rattle.store_load.specs.Kept.{are_filled, are_short, begins_well, dead_by, kept_of, live_of, rise_to}
+use Rattle.store_load.specs.Kept.{are_short, begins_well, dead_by, kept_of, rise_to}
 use Rattle.store_load.specs.Trimmed.{IsTrimmed}
 use Rattle.store_load.specs.declared.rule.Rule.{Rule}
 use Rattle.store_load.proofs.Counting.{KeptAre, by_low, counted, ends_at, first_by, kept_parts, low_by, parts_kept, small_enough}

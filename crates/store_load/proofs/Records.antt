@@ -1,14 +1,13 @@
 -- The records of an extent.
-use Rattle.std.proofs.Common.{◌≡◌, ℕ, zero, suc, ◌+◌, ◌*◌, ◌%◌, ◌<◌, ◌≤◌, Bool, true, false, ◌==◌, List, [], ◌∷◌, length, Option, Some, None, refl, sym, ◌∙◌, ap, subst, arith, eqb-true}
+use Rattle.std.proofs.Common.{◌≡◌, ℕ, zero, suc, ◌+◌, ◌*◌, ◌<◌, ◌≤◌, true, ◌==◌, List, [], ◌∷◌, length, Option, Some, None, refl, sym, ◌∙◌, ap, subst, arith, eqb-true}
 use Rattle.std.proofs.lemmas.Bool.{eq-eqb}
-use Rattle.std.proofs.lemmas.Option.{none-some, same_Some}
+use Rattle.std.proofs.lemmas.Option.{same_Some}
 use Rattle.std.specs.Prelude.{⊤}
 use Rattle.board.specs.Flash.{IsContent, pages_from}
 use Rattle.board.proofs.Pages.{in_pages}
 use Rattle.space_packet.specs.Charge.{charge_of}
 use Rattle.record_view.specs.Records.{Meaning, number_after, record_at, records_from, with_next}
 use Rattle.record_view.proofs.Spelling.{spells_read}
-use Rattle.store_directory.specs.Options.{◌>>=◌, given}
 use Rattle.store_load.specs.Extents.{Extent, all_records, block_octets, pages_in, read_extent}
 use Rattle.store_load.proofs.BlockPages.{length-block, record_stays}
 use Rattle.store_load.proofs.Eachs.{given_then}
@@ -69,7 +68,7 @@ records_cons block count number page records is =
       next meaning,
       found,
       read_all block count (number_after number) (page + charge_of (length meaning.packet)) (next meaning)
-      (record { are = refl; many = omega (arith, ap length are, many) }),
+          (record { are = refl; many = omega (arith, ap length are, many) }),
       are,
     )
 
@@ -124,7 +123,7 @@ module _ (blocks : ℕ) (image other : ℕ → List ℕ) (content : IsContent bl
       let (meaning, rest, here, behind, whole) =
       records_cons (block_octets image block) count number page records is in
       let near : (i : ℕ) → page ≤ i → i < page + (charge_of (length meaning.packet) + pages_in rest)
-          → other (256 * block + i) ≡ image (256 * block + i) =
+      → other (256 * block + i) ≡ image (256 * block + i) =
       λ i low high. same i low (subst (λ (l : List Meaning). i < page + pages_in l) whole high) in
       cons_records (block_octets other block) count number page meaning rest
       (record_stays blocks image other block number page meaning content others within here

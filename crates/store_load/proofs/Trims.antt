@@ -1,5 +1,5 @@
 -- What the extents have that are left when the front of a store goes.
-use Rattle.std.proofs.Common.{◌≡◌, ℕ, ◌+◌, ◌-◌, ◌<◌, ◌≤◌, ◌&&◌, nat_le, nat_lt, Bool, true, false, not, List, [], ◌∷◌, ◌++◌, All, length, drop, Option, Some, refl, sym, ◌∙◌, ap, subst, arith, length-append}
+use Rattle.std.proofs.Common.{◌≡◌, ℕ, ◌+◌, ◌<◌, nat_le, Bool, true, false, List, [], ◌∷◌, ◌++◌, All, length, drop, Some, refl, sym, ◌∙◌, ap, subst, arith, length-append}
 use Rattle.std.specs.Prelude.{if◌then◌else◌}
 use Rattle.std.proofs.Math.Seq.{drop-append-add}
 use Rattle.std.proofs.lemmas.List.Elements.{All-head, All-tail}
@@ -9,9 +9,9 @@ use Rattle.record_view.specs.declared.link.Link.{Link}
 use Rattle.store_directory.specs.Directory.{trim_front}
 use Rattle.store_directory.specs.Rows.{between, is_by}
 use Rattle.store_load.specs.Each.{each}
-use Rattle.store_load.specs.Extents.{extent_to, extents_from, extents_to, joined, last_of, last_read, pages_in, read_extent}
+use Rattle.store_load.specs.Extents.{extent_to, extents_from, joined, last_of, last_read, pages_in, read_extent}
 use Rattle.store_load.specs.Keeping.{IsLinkOf}
-use Rattle.store_load.specs.Kept.{are_filled, are_short, dead_by}
+use Rattle.store_load.specs.Kept.{are_filled, are_short}
 use Rattle.store_load.specs.Trimmed.{IsTrimmed}
 use Rattle.store_load.proofs.Counting.{by_low, sum_between}
 use Rattle.store_load.proofs.Eachs.{each_cons, two}

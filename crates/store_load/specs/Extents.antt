@@ -1,5 +1,5 @@
 -- The records of a store along its links.
-use Rattle.std.specs.Prelude.{ℕ, zero, suc, ◌+◌, ◌*◌, ◌%◌, Bool, ◌==◌, List, [], ◌∷◌, ◌++◌, length, Option, Some}
+use Rattle.std.specs.Prelude.{ℕ, ◌+◌, ◌*◌, ◌%◌, ◌==◌, List, [], ◌∷◌, ◌++◌, length, Option, Some}
 use Rattle.space_packet.specs.Charge.{charge_of}
 use Rattle.commit_gate.specs.Entries.{octets_from}
 use Rattle.record_view.specs.Records.{Meaning, records_from}

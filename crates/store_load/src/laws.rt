@@ -9,7 +9,7 @@ ghost use Rattle.store_directory.specs.declared.row.Row.{Row};
 ghost use Rattle.store_load.specs.declared.rule.Rule.{Rule};
 ghost use Rattle.store_load.specs.Extents.{block_octets, end_of, extent_to, last_of, pages_in, read_extent};
 ghost use Rattle.store_load.specs.Frame.{in_store};
-ghost use Rattle.store_load.specs.Keeping.{IsLinkOf, Keeps};
+ghost use Rattle.store_load.specs.Keeping.{IsInDevice, Keeps};
 ghost use Rattle.store_load.specs.Kept.{kept_of};
 ghost use Rattle.store_load.specs.Moving.{GoesOn, IsNext, last_extent, used_by};
 
@@ -18,13 +18,13 @@ ghost use Rattle.store_load.specs.Moving.{GoesOn, IsNext, last_extent, used_by};
 pub fn stores_are_read_from_their_records()
     ensures kept { (rule : Rule) (blocks : ℕ) (image other : ℕ → List ℕ) (now : ℕ) (row : Row)
         (links : List Link) (records : List Meaning)
-        → IsContent blocks image → IsContent blocks other → All (IsLinkOf blocks) links
+        → IsContent blocks image → IsContent blocks other → All (IsInDevice blocks) links
         → kept_of rule image now row links ≡ Some records
         → ((p : ℕ) → in_store image p row links ≡ true → other p ≡ image p)
         → kept_of rule other now row links ≡ Some records }
     ensures pages { (rule : Rule) (blocks : ℕ) (image other : ℕ → List ℕ) (now : ℕ) (row : Row)
         (links : List Link) (records : List Meaning)
-        → IsContent blocks image → IsContent blocks other → All (IsLinkOf blocks) links
+        → IsContent blocks image → IsContent blocks other → All (IsInDevice blocks) links
         → kept_of rule image now row links ≡ Some records
         → ((p : ℕ) → in_store image p row links ≡ true → other p ≡ image p)
         → (p : ℕ) → in_store other p row links ≡ in_store image p row links }

@@ -17,7 +17,7 @@ use Rattle.meta_journal.proofs.committing.commit.Goals.{After-append}
 leaves : (g : Over) (c : After-append g) → TellsFlash g.B.Board.means c.args.board.now → (before after : Directory)
     → IsJournal (g.B.Board.means.device c.args.board.now).blocks c.args.root before c.args.at (g.B.Board.means.flash c.args.board.now)
     → fold_entry before c.args.entry.now ≡ Some after
-    → LeavesOnly g.B.Board.means c.args.board.now c.append.new.board (HoldsEither (g.B.Board.means.device c.args.board.now).blocks before after)
+    → LeavesOnly g.B.Board.means c.args.board.now c.append.new.board (HoldsEither (g.B.Board.means.device c.args.board.now).blocks (entry_pages (half_base (half_of c.args.root)) c.args.at c.args.entry.now) (g.B.Board.means.flash c.args.board.now) before after)
 leaves g c told before after journal more =
     let means = g.B.Board.means in
     let old = c.args.board.now in
@@ -28,7 +28,7 @@ leaves g c told before after journal more =
     let blocks = (means.device old).blocks in
     let run = subst (λ (block : ℕ). (start : ℕ) (these : List (List ℕ)) → Stands (means.flash old) (256 * block) start these at
     → LeavesOnly means old new (IsBeforeOrAfter blocks (means.flash old) (256 * block) start these at entry)) c.half_of.ensures (c.append.ensures.any_moment told) in
-    weaker means old new (HoldsEither blocks before after)
+    weaker means old new (HoldsEither blocks (entry_pages (half_base (half_of root)) at entry) (means.flash old) before after)
     (IsBeforeOrAfter blocks (means.flash old) (half_base (half_of root)) journal.start journal.entries at entry) (run journal.start journal.entries journal.stands)
     (commit_holds blocks (means.flash old) root before at (g.met.B.Board.enough_blocks old) (omega (arith, c.requires.room)) journal entry after more)
 

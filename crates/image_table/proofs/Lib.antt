@@ -1,0 +1,4 @@
+pub mod Frames
+pub mod DataPages
+pub mod Standing
+pub mod TableRows

@@ -1,0 +1,10 @@
+//! The table that an image of the flash holds, and which pages it is read from. Nothing here
+//! computes for the program: the crates above cite it.
+#![tactic(auto)]
+
+mod laws;
+
+pub use laws::{
+    commits_change_one_table, images_hold_the_table, steps_beside_keep_the_table,
+    tables_are_read_from_their_frame,
+};
