@@ -11,7 +11,7 @@ use Rattle.chain_log.specs.declared.place.LoadFault.TheVariants as faults
 use Rattle.chain_log.specs.declared.place.Place.{Place}
 use Rattle.chain_log.specs.Loaded.{IsFound, octets_at}
 use Rattle.chain_log.specs.Pages.{block_octets, with_record}
-use Rattle.chain_log.specs.Tails.{Filling, filled_by, shut}
+use Rattle.chain_log.specs.Tails.{Filling}
 
 -- The record of a place stands behind those of a tail too, under the number `to`.
 pub record IsCopied (place : Place) (number to : ℕ) (tail : Filling) (old new : Flash) : Type 0 where
@@ -22,11 +22,17 @@ pub record IsCopied (place : Place) (number to : ℕ) (tail : Filling) (old new 
   pub spelled : record_at (block_octets new.content tail.block) to tail.used
       ≡ Some (record { number = to; stamp = meaning.stamp; packet = meaning.packet })
 
--- what a copy makes of a tail: after a flash fault it is shut, or as it was
-abbrev pub IsAfterCopy : {A : Type 0} → ℕ → Filling → Result A LoadFault → Filling → Type 0
-IsAfterCopy pages old (Ok page) new = new ≡ filled_by pages old
-IsAfterCopy pages old (Err faults.Flash) new = (new ≡ old) ⊎ (new ≡ shut old)
-IsAfterCopy pages old (Err (faults.Mismatch block page kept found)) new = new ≡ old
+-- How many pages of a tail are taken after a copy: after a flash fault as many as before, or all.
+abbrev pub IsUsedAfter : {A : Type 0} → ℕ → ℕ → Result A LoadFault → ℕ → Type 0
+IsUsedAfter pages used (Ok page) now = now ≡ used + pages
+IsUsedAfter pages used (Err faults.Flash) now = (now ≡ used) ⊎ (now ≡ 256)
+IsUsedAfter pages used (Err (faults.Mismatch block page kept found)) now = now ≡ used
+
+-- what a copy makes of a tail
+pub record IsAfterCopy {A : Type 0} (pages : ℕ) (old : Filling) (answer : Result A LoadFault)
+    (new : Filling) : Type 0 where
+  pub block : new.block ≡ old.block
+  pub used : IsUsedAfter pages old.used answer new.used
 
 -- Something that holds after a mismatch.
 abbrev pub OnMismatch : {A : Type 0} → Result A LoadFault → Type 0 → Type 0

@@ -6,14 +6,12 @@ pub record Filling : Type 0 where
   pub block : ℕ
   pub used : ℕ
 
--- with one record more, and with no room for any
-abbrev pub filled_by : ℕ → Filling → Filling
-filled_by pages tail = record { block = tail.block; used = tail.used + pages }
+-- How many are taken after an append of this many pages: all of them if a program failed, so that
+-- no record fits any more.
+abbrev pub used_after : {A E : Type 0} → ℕ → ℕ → Result A E → ℕ
+used_after pages used (Ok page) = used + pages
+used_after pages used (Err failed) = 256
 
-abbrev pub shut : Filling → Filling
-shut tail = record { block = tail.block; used = 256 }
-
--- what an append of this many pages makes of a tail
 abbrev pub after_append : {A E : Type 0} → ℕ → Filling → Result A E → Filling
-after_append pages tail (Ok page) = filled_by pages tail
-after_append pages tail (Err failed) = shut tail
+after_append pages tail answer =
+    record { block = tail.block; used = used_after pages tail.used answer }

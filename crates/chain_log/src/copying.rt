@@ -45,7 +45,7 @@ pub fn copy_record<B: Board>(
     ensures copied { OnOk result (TellsFlash B.means board.old → IsCopied place number to tail.old
         (B.means.flash board.old) (B.means.flash board.new)) }
     ensures clean { TellsFlash B.means board.old
-        → IsCleanFrom (B.means.flash board.new) tail.old.block tail.new.used }
+        → IsCleanFrom (B.means.flash board.new) tail.new.block tail.new.used }
     ensures seen { OnOk result (TellsFlash B.means board.old
         → B.means.images board.new (B.means.moment board.new) (B.means.flash board.new).content) }
 

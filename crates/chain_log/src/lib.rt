@@ -20,4 +20,6 @@ pub use place::{LoadFault, Place};
 pub use tail::Tail;
 
 #[cfg(test)]
+mod failing_tests;
+#[cfg(test)]
 mod tests;

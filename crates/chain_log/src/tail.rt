@@ -136,7 +136,7 @@ impl Tail {
             number self.old.used
             ≡ Some (record { number = number; stamp = stamp; packet = octets_of packet.entry })) }
         ensures clean { TellsFlash B.means board.old
-            → IsCleanFrom (B.means.flash board.new) self.old.block self.new.used }
+            → IsCleanFrom (B.means.flash board.new) self.new.block self.new.used }
         ensures seen { OnOk result (TellsFlash B.means board.old → B.means.images
             board.new (B.means.moment board.new) (B.means.flash board.new).content) }
 
@@ -156,15 +156,10 @@ impl Tail {
             (Rose (B.means.counts board.old).flash_faults (B.means.counts board.new).flash_faults) }
     {
         let pages = write_record(number, stamp, packet, buf);
+        let octets = &buf[..256 * pages as usize];
         let first = self.used;
         self.used = PAGES;
-        write_pages(
-            board,
-            self.block,
-            first,
-            pages,
-            &buf[..256 * pages as usize],
-        )?;
+        write_pages(board, self.block, first, pages, octets)?;
         self.used = first + pages;
         Ok(first)
     }
