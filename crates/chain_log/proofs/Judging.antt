@@ -1,6 +1,6 @@
 -- What was kept of a record, judged by what is found.
-use Rattle.std.proofs.Common.{◌≡◌, ◌≢◌, ℕ, ◌+◌, ◌*◌, ◌<◌, ◌≤◌, ◌==◌, not, Bool, true, false, List, [], ◌∷◌, take, drop, length}
-use Rattle.std.proofs.Common.{Result, Ok, Err, IfOk, IfErr, refl, sym, ◌∙◌, ap, subst, arith}
+use Rattle.std.proofs.Common.{◌≡◌, ◌≢◌, ℕ, ◌==◌, not, Bool, List, [], ◌∷◌}
+use Rattle.std.proofs.Common.{Result, Ok, Err, IfOk, IfErr, refl, sym, ◌∙◌, ap, subst}
 use Rattle.std.proofs.lemmas.Bool.{eq-eqb, ne_eqb}
 use Rattle.std.specs.Prelude.{filter}
 use Rattle.std.specs.Result.{IsErrAnd}
@@ -12,7 +12,6 @@ use Rattle.record_view.specs.declared.view.RecordView.{RecordView}
 use Rattle.chain_log.specs.declared.place.LoadFault.{LoadFault}
 use Rattle.chain_log.specs.declared.place.LoadFault.TheVariants.{Flash, Mismatch}
 use Rattle.chain_log.specs.Loaded.{Gives, IsFirstDifference, IsFound, differences, packet_in}
-use Rattle.chain_log.specs.Loaded.{pairs_of}
 
 -- whether a pair differs
 abbrev unlike : ℕ × ℕ → Bool

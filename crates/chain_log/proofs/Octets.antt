@@ -1,13 +1,13 @@
 -- Octets of pages one behind the other, taken apart and put together.
-use Rattle.std.proofs.Common.{◌≡◌, ℕ, zero, suc, ◌+◌, ◌-◌, ◌*◌, ◌<◌, ◌≤◌, List, [], ◌++◌, length, take, drop}
-use Rattle.std.proofs.Common.{refl, sym, ◌∙◌, ap, ap₂, arith, add-zero, add-one, append-nil, append_assoc}
+use Rattle.std.proofs.Common.{◌≡◌, ℕ, zero, suc, ◌+◌, ◌-◌, ◌*◌, ◌<◌, ◌≤◌, List, ◌++◌, length, take, drop}
+use Rattle.std.proofs.Common.{refl, sym, ◌∙◌, ap, ap₂, arith, add-zero, append_assoc}
 use Rattle.std.proofs.Common.{length-append, zero-add}
 use Rattle.std.proofs.Math.Seq.{drop-append_seam, take-add, take-append_seam}
 use Rattle.std.proofs.lemmas.List.{take_all}
-use Rattle.board.specs.Flash.{IsContent, IsPage}
+use Rattle.board.specs.Flash.{IsContent}
 use Rattle.commit_gate.specs.Entries.{octets_from}
 use Rattle.commit_gate.proofs.AreaPages.{octets_last, octets_none}
-use Rattle.chain_log.specs.Pages.{AreWritten, block_octets, page_in}
+use Rattle.chain_log.specs.Pages.{AreWritten, block_octets}
 
 -- the octets of some pages, and of those behind them
 pub octets_split : (content : ℕ → List ℕ) (a b first : ℕ)

@@ -1,5 +1,5 @@
 -- The flash while octets are written into it, a page at a time.
-use Rattle.std.proofs.Common.{◌≡◌, ℕ, ◌+◌, ◌-◌, ◌*◌, ◌<◌, ◌≤◌, true, false, List, sym, ◌∙◌, ap, subst}
+use Rattle.std.proofs.Common.{◌≡◌, ℕ, ◌+◌, ◌-◌, ◌<◌, ◌≤◌, true, false, List, sym, ◌∙◌, ap, subst}
 use Rattle.std.proofs.Common.{arith}
 use Rattle.board.specs.Flash.{Flash, IsClean, only_page, pages_from, written}
 use Rattle.board.proofs.Pages.{above_pages, elsewhere, none_of_pages, written_more}

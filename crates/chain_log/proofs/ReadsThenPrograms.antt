@@ -1,5 +1,5 @@
 -- Pages that are read, and then others that are programmed.
-use Rattle.std.proofs.Common.{◌≡◌, ℕ, ◌+◌, ◌≤◌, Bool, List, refl, sym, ◌∙◌, ap, subst, arith}
+use Rattle.std.proofs.Common.{ℕ, Bool, ◌∙◌, subst, arith}
 use Rattle.board.specs.Device.{Device}
 use Rattle.board.specs.Flash.{Flash, IsImage, loosened}
 use Rattle.board.specs.Meaning.{BoardMeaning, TellsFlash}

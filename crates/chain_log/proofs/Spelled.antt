@@ -1,6 +1,6 @@
 -- A record at its place: as it was written, and as it is loaded.
-use Rattle.std.proofs.Common.{◌≡◌, ℕ, suc, ◌+◌, ◌-◌, ◌*◌, ◌<◌, ◌≤◌, ◌^◌, List, ◌++◌, length, take, drop, Some, replicate}
-use Rattle.std.proofs.Common.{refl, sym, ◌∙◌, ap, subst, arith, append_assoc, length-append, take-take}
+use Rattle.std.proofs.Common.{◌≡◌, ℕ, ◌+◌, ◌-◌, ◌*◌, ◌<◌, ◌≤◌, ◌^◌, List, ◌++◌, length, take, drop, Some, replicate}
+use Rattle.std.proofs.Common.{sym, ◌∙◌, ap, arith, append_assoc, length-append, take-take}
 use Rattle.std.proofs.lemmas.List.{drop-drop, drop-take, length-replicate, take-append-le, take_all}
 use Rattle.octet_fields.specs.Fields.{field}
 use Rattle.octet_fields.proofs.Numbers.{field-take, number_behind}

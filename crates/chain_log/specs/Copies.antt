@@ -1,5 +1,5 @@
 -- What a copy of a record leaves.
-use Rattle.std.specs.Prelude.{◌≡◌, ◌⊎◌, ⊤, ℕ, ◌+◌, ◌*◌, Bool, List, Some, Result, Ok, Err}
+use Rattle.std.specs.Prelude.{◌≡◌, ◌⊎◌, ⊤, ℕ, ◌+◌, ◌*◌, Bool, Some, Result, Ok, Err}
 use Rattle.board.specs.Counts.{Works}
 use Rattle.board.specs.Flash.{Flash, IsImage, loosened}
 use Rattle.board.specs.Meaning.{BoardMeaning, TellsFlash, TellsLink}

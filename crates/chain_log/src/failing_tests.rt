@@ -122,7 +122,6 @@ fn a_copy_has_its_own_number_and_the_stamp_that_was_read(rt: HostRuntime) -> Res
     let copied = copy_record(&mut board, PLACE, 5, 6, &mut tail, &mut buf);
     assert!(rt; matches!(copied, Ok(3)));
     assert_eq!(rt; tail.used(), 6);
-    assert!(rt; are_loaded(&mut board, 7, 5, &[600, 600]));
     let copied = copy_record(&mut board, PLACE, 4, 7, &mut tail, &mut buf);
     assert!(rt;
         matches!(
@@ -136,6 +135,7 @@ fn a_copy_has_its_own_number_and_the_stamp_that_was_read(rt: HostRuntime) -> Res
     );
     assert_eq!(rt; tail.used(), 6);
     assert_eq!(rt; board.count(CallKind::Program), 6);
+    assert!(rt; are_loaded(&mut board, 7, 5, &[600, 600]));
     Ok(())
 }
 

@@ -1,9 +1,8 @@
-use Rattle.std.proofs.Common.{◌≡◌, ◌<◌, ◌+◌, ◌*◌, List, ℕ, refl, sym, ◌∙◌, ap, subst, arith}
+use Rattle.std.proofs.Common.{◌≡◌, ◌<◌, ◌+◌, ◌*◌, refl, sym, ◌∙◌, ap, subst, arith}
 use Rattle.board.specs.Device.{Device}
 use Rattle.board.specs.Flash.{Flash}
 use Rattle.board.proofs.Reading.{reads_most, reads_none, reads_on}
 use Rattle.board.proofs.Works.{rose_by_one, tells_too}
-use Rattle.commit_gate.specs.Entries.{octets_from}
 use Rattle.commit_gate.proofs.AreaPages.{octets_none}
 use Rattle.commit_gate.proofs.Buffers.{page_read}
 use Rattle.chain_log.proofs.pages.read_pages.Goals as goal

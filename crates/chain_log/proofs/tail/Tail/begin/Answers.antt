@@ -1,7 +1,7 @@
-use Rattle.std.proofs.Common.{refl, arith}
+use Rattle.std.proofs.Common.{refl}
 use Rattle.board.specs.Flash.{pages_of_block}
 use Rattle.board.specs.Touches.{no_page}
-use Rattle.board.proofs.Touching.{touches_most, touches_on}
+use Rattle.board.proofs.Touching.{touches_on}
 use Rattle.chain_log.proofs.tail.Tail.begin.Goals as goal
 
 pub returns-in_err-barrier-clause-touches : goal.returns-in_err-barrier-clause-touches
