@@ -1,0 +1,5 @@
+mod Judging
+mod Octets
+mod Programs
+mod ReadsThenPrograms
+mod Spelled

@@ -1,0 +1,4 @@
+pub mod Copies
+pub mod Loaded
+pub mod Pages
+pub mod Tails
