@@ -1,5 +1,5 @@
 mod Judging
-mod Octets
+pub mod Octets
 mod Programs
 mod ReadsThenPrograms
 mod Spelled

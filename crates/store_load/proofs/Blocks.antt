@@ -11,7 +11,8 @@ use Rattle.store_directory.specs.Rows.{between, is_by}
 use Rattle.store_directory.specs.declared.row.Row.{Row}
 use Rattle.store_directory.proofs.Steps.{some_then}
 use Rattle.store_load.specs.Each.{each}
-use Rattle.store_load.specs.Extents.{all_records, block_octets, end_of, extent_to, extents_from, extents_to, joined, last_of, last_read, pages_in, read_extent}
+use Rattle.chain_log.specs.Pages.{block_octets}
+use Rattle.store_load.specs.Extents.{all_records, end_of, extent_to, extents_from, extents_to, joined, last_of, last_read, pages_in, read_extent}
 use Rattle.store_load.specs.Keeping.{Keeps}
 use Rattle.store_load.specs.Kept.{are_filled, are_short, begins_well, dead_by, kept_of}
 use Rattle.store_load.specs.declared.rule.Rule.{Rule}

@@ -7,7 +7,8 @@ use Rattle.record_view.specs.Records.{Meaning, record_at}
 use Rattle.record_view.specs.declared.link.Link.{Link}
 use Rattle.store_directory.specs.Directory.{swap_last, trimmed}
 use Rattle.store_directory.specs.declared.row.Row.{Row}
-use Rattle.store_load.specs.Extents.{block_octets, end_of, extent_to, last_of, last_read, pages_in, read_extent}
+use Rattle.chain_log.specs.Pages.{block_octets}
+use Rattle.store_load.specs.Extents.{end_of, extent_to, last_of, last_read, pages_in, read_extent}
 use Rattle.store_load.specs.Frame.{pages_read}
 use Rattle.store_load.specs.Keeping.{Keeps}
 use Rattle.store_load.specs.Kept.{begins_well, kept_of}

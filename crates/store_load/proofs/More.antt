@@ -8,7 +8,8 @@ use Rattle.record_view.specs.Records.{Meaning, record_at}
 use Rattle.record_view.specs.declared.link.Link.{Link}
 use Rattle.store_directory.specs.Rows.{between}
 use Rattle.store_load.specs.Each.{each}
-use Rattle.store_load.specs.Extents.{all_records, block_octets, extent_to, extents_from, joined, last_of, last_read, pages_in, read_extent, with_record}
+use Rattle.chain_log.specs.Pages.{block_octets}
+use Rattle.store_load.specs.Extents.{all_records, extent_to, extents_from, joined, last_of, last_read, pages_in, read_extent, with_record}
 use Rattle.store_load.specs.Keeping.{IsLinkOf}
 use Rattle.store_load.specs.Kept.{are_filled}
 use Rattle.store_load.proofs.Eachs.{each_cons, each_more}

@@ -13,7 +13,8 @@ use Rattle.store_directory.specs.Directory.{trim_front, trimmed}
 use Rattle.store_directory.specs.Rows.{between, is_by}
 use Rattle.store_directory.specs.declared.row.Row.{Row}
 use Rattle.store_load.specs.Each.{each}
-use Rattle.store_load.specs.Extents.{block_octets, end_of, extent_to, extents_from, extents_of, extents_to, joined, last_of, last_read, pages_in, read_extent, with_record}
+use Rattle.chain_log.specs.Pages.{block_octets}
+use Rattle.store_load.specs.Extents.{end_of, extent_to, extents_from, extents_of, extents_to, joined, last_of, last_read, pages_in, read_extent, with_record}
 use Rattle.store_load.specs.Keeping.{IsLinkOf, Keeps}
 use Rattle.store_load.specs.Kept.{are_short, begins_well, dead_by, kept_of, rise_to}
 use Rattle.store_load.specs.Trimmed.{IsTrimmed}

@@ -8,7 +8,8 @@ use Rattle.board.proofs.Pages.{in_pages}
 use Rattle.space_packet.specs.Charge.{charge_of}
 use Rattle.record_view.specs.Records.{Meaning, number_after, record_at, records_from, with_next}
 use Rattle.record_view.proofs.Spelling.{spells_read}
-use Rattle.store_load.specs.Extents.{Extent, all_records, block_octets, pages_in, read_extent}
+use Rattle.chain_log.specs.Pages.{block_octets}
+use Rattle.store_load.specs.Extents.{Extent, all_records, pages_in, read_extent}
 use Rattle.store_load.proofs.BlockPages.{length-block, record_stays}
 use Rattle.store_load.proofs.Eachs.{given_then}
 

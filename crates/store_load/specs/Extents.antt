@@ -1,16 +1,12 @@
 -- The records of a store along its links.
 use Rattle.std.specs.Prelude.{ℕ, ◌+◌, ◌*◌, ◌%◌, ◌==◌, List, [], ◌∷◌, ◌++◌, length, Option, Some}
 use Rattle.space_packet.specs.Charge.{charge_of}
-use Rattle.commit_gate.specs.Entries.{octets_from}
+use Rattle.chain_log.specs.Pages.{block_octets}
 use Rattle.record_view.specs.Records.{Meaning, records_from}
 use Rattle.record_view.specs.declared.link.Link.{Link}
 use Rattle.store_directory.specs.Options.{◌>>=◌, given}
 use Rattle.store_directory.specs.Rows.{between}
 use Rattle.store_directory.specs.declared.row.Row.{Row}
-
--- the octets of a block of an image
-abbrev pub block_octets : (ℕ → List ℕ) → ℕ → List ℕ
-block_octets image block = octets_from image (256 * block) 256
 
 -- as many records as asked for, the first with this number and at this page, if the block spells all
 -- of them
