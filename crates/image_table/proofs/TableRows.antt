@@ -9,7 +9,6 @@ use Rattle.meta_journal.proofs.DirectoryRows.{first_page, formatted, gate, image
 use Rattle.octet_fields.specs.Fields.{big_bytes}
 use Rattle.pst_model.specs.Table.{Stored, Table, after_format, boot_store}
 use Rattle.record_view.specs.Records.{record_at, records_from}
-use Rattle.record_view.specs.Written.{record_pages}
 use Rattle.record_view.specs.declared.link.Link.{Link}
 use Rattle.root_vote.specs.Roots.{choice_of, root_in}
 use Rattle.store_directory.specs.Changes.{Change, Clock, Links, Put, apply}
@@ -22,6 +21,7 @@ use Rattle.store_directory.specs.Rows.{row_in}
 use Rattle.store_directory.specs.Same.{same_directory}
 use Rattle.store_load.specs.Extents.{all_records, read_extent}
 use Rattle.store_load.specs.Kept.{kept_of}
+use Rattle.store_load.proofs.KeptRows.{link, packet, page_of}
 use Rattle.image_table.specs.Table.{table_by, table_of}
 
 -- a page that spells an entry
@@ -30,19 +30,8 @@ entry_page changes =
     let text = entry_octets changes in
     big_bytes 4 (length text) ++ text ++ replicate (252 - length text) 0
 
--- a packet of 8 octets, and one of 4,096
-abbrev packet : List ℕ
-packet = 0 ∷ 100 ∷ 192 ∷ 0 ∷ 0 ∷ 1 ∷ 17 ∷ 18 ∷ []
-
--- the page of a record of the packet
-abbrev page_of : (number stamp : ℕ) → List ℕ
-page_of number stamp = record_pages number stamp packet
-
 abbrev at_time : ℕ → Stored
 at_time time = record { time = time; octets = packet }
-
-abbrev link : (block first : ℕ) → Link
-link block first = record { block = block; first = first }
 
 -- a directory of one store, with so many records from this number on
 abbrev listing : (first count : ℕ) → List Link → Directory
@@ -107,36 +96,6 @@ two_records : table_by 16 (image_of ((1792, page_of 0 9) ∷ (1793, page_of 1 4)
 unfolding table_by kept_of read_extent all_records records_from record_at octets_from blank is_lawful
 two_records = refl
 
--- numbers go on from 4,294,967,295 to 0
-numbers_go_round : table_by 16 (image_of ((1792, page_of 4294967295 4) ∷ (1793, page_of 0 5) ∷ [])) (listing 4294967295 2 (link 7 4294967295 ∷ []))
-    ≡ Some (holding (at_time 4 ∷ at_time 5 ∷ []))
-unfolding table_by kept_of read_extent all_records records_from record_at octets_from blank is_lawful
-numbers_go_round = refl
-
--- another number than the row says
-other_number : table_by 16 (image_of ((1792, page_of 1 4) ∷ [])) (listing 0 1 (link 7 0 ∷ [])) ≡ None
-unfolding table_by kept_of read_extent all_records records_from record_at octets_from blank is_lawful
-other_number = refl
-
--- one record fewer than the row counts
-too_few : table_by 16 (image_of ((1792, page_of 0 4) ∷ [])) (listing 0 2 (link 7 0 ∷ [])) ≡ None
-unfolding table_by kept_of read_extent all_records records_from record_at octets_from blank is_lawful
-too_few = refl
-
--- the first block begins behind the first record
-begins_late : table_by 16 (image_of ((1792, page_of 1 4) ∷ [])) (listing 0 1 (link 7 1 ∷ [])) ≡ None
-unfolding table_by kept_of read_extent all_records records_from record_at octets_from blank is_lawful
-begins_late = refl
-
--- a block and no record, and a record and no block
-no_record : table_by 16 (image_of []) (listing 0 0 (link 7 0 ∷ [])) ≡ None
-unfolding table_by kept_of read_extent all_records records_from record_at octets_from blank is_lawful
-no_record = refl
-
-no_block : table_by 16 (image_of ((1792, page_of 0 4) ∷ [])) (listing 0 1 []) ≡ None
-unfolding table_by kept_of read_extent all_records records_from record_at octets_from blank is_lawful
-no_block = refl
-
 -- a block of the journal, one behind the device, and one block twice
 journal_block : table_by 16 (image_of ((1536, page_of 0 4) ∷ [])) (listing 0 1 (link 6 0 ∷ [])) ≡ None
 unfolding table_by kept_of read_extent all_records records_from record_at octets_from blank is_lawful
@@ -150,19 +109,10 @@ block_twice : table_by 16 (image_of ((1792, page_of 0 4) ∷ (1793, page_of 1 4)
 unfolding table_by kept_of read_extent all_records records_from record_at octets_from blank is_lawful
 block_twice = refl
 
--- a block with fewer than 240 pages in use, and another one behind it
+-- a block with 239 pages in use or fewer, and another one behind it
 half_empty : table_by 16 (image_of ((1792, page_of 0 4) ∷ (2048, page_of 1 4) ∷ [])) (listing 0 2 (link 7 0 ∷ link 8 1 ∷ [])) ≡ None
 unfolding table_by kept_of read_extent all_records records_from record_at octets_from blank is_lawful
 half_empty = refl
-
--- a time that falls, and one past the table's
-times_fall : table_by 16 (image_of ((1792, page_of 0 5) ∷ (1793, page_of 1 4) ∷ [])) (listing 0 2 (link 7 0 ∷ [])) ≡ None
-unfolding table_by kept_of read_extent all_records records_from record_at octets_from blank is_lawful
-times_fall = refl
-
-time_to_come : table_by 16 (image_of ((1792, page_of 0 6) ∷ [])) (listing 0 1 (link 7 0 ∷ [])) ≡ None
-unfolding table_by kept_of read_extent all_records records_from record_at octets_from blank is_lawful
-time_to_come = refl
 
 -- a store of 64 pages reserves three blocks, and eight are no one's
 abbrev empty_listing : Directory

@@ -2,8 +2,13 @@
 //! computes for the program: the crates above cite it.
 #![tactic(auto)]
 
+mod changing;
 mod laws;
 
+pub use changing::{
+    clocks_go_on, fronts_leave_the_table, new_blocks_enter_the_directory, records_enter_the_table,
+    renewed_blocks_keep_the_table,
+};
 pub use laws::{
     commits_change_one_table, images_hold_the_table, steps_beside_keep_the_table,
     tables_are_read_from_their_frame,

@@ -8,3 +8,4 @@ pub mod Moved
 pub mod Frames
 pub mod Blocks
 pub mod Going
+pub mod KeptRows

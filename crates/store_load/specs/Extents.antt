@@ -1,5 +1,5 @@
 -- The records of a store along its links.
-use Rattle.std.specs.Prelude.{ℕ, ◌+◌, ◌*◌, ◌%◌, ◌==◌, List, [], ◌∷◌, ◌++◌, length, Option, Some}
+use Rattle.std.specs.Prelude.{ℕ, ◌+◌, ◌%◌, ◌==◌, List, [], ◌∷◌, ◌++◌, length, Option, Some}
 use Rattle.space_packet.specs.Charge.{charge_of}
 use Rattle.chain_log.specs.Pages.{block_octets}
 use Rattle.record_view.specs.Records.{Meaning, records_from}
