@@ -39,6 +39,11 @@ octets_length blocks content (suc n) first pages within =
       octets_length blocks content n (suc first) pages (omega arith),
     )
 
+pub block_length : (blocks : ℕ) (content : ℕ → List ℕ) (block : ℕ) → IsContent blocks content
+    → block < blocks → length (block_octets content block) ≡ 65536
+block_length blocks content block pages inside =
+    octets_length blocks content 256 (256 * block) pages (omega arith)
+
 -- the first pages of what was written
 pub octets_front : (content : ℕ → List ℕ) (octets : List ℕ) (first pages n : ℕ) → n ≤ pages
     → AreWritten content first pages octets → octets_from content first n ≡ take (256 * n) octets

@@ -22,6 +22,17 @@ pub fn records_stand()
         ≡ Some (record { number = number; stamp = stamp; packet = packet }) }
 {}
 
+/// A record is spelled at its place as long as its pages hold what they held, whatever becomes of
+/// all others.
+pub fn records_stay()
+    ensures { (blocks : ℕ) (content other : ℕ → List ℕ) (block page number : ℕ) (meaning : Meaning)
+        → IsContent blocks content → IsContent blocks other → block < blocks
+        → record_at (block_octets content block) number page ≡ Some meaning
+        → ((i : ℕ) → i < charge_of (length meaning.packet)
+        → other (256 * block + page + i) ≡ content (256 * block + page + i))
+        → record_at (block_octets other block) number page ≡ Some meaning }
+{}
+
 /// A record that is spelled at a place is what is loaded there, and no pair differs.
 pub fn records_are_loaded()
     ensures { (blocks : ℕ) (content : ℕ → List ℕ) (place : Place) (number : ℕ) (meaning : Meaning)

@@ -14,7 +14,7 @@ mod place;
 mod tail;
 
 pub use copying::copy_record;
-pub use laws::{records_are_loaded, records_stand};
+pub use laws::{records_are_loaded, records_stand, records_stay};
 pub use loading::{load_block, load_record};
 pub use place::{LoadFault, Place};
 pub use tail::Tail;
