@@ -1,5 +1,6 @@
 -- Octets of pages one behind the other, taken apart and put together.
-use Rattle.std.proofs.Common.{◌≡◌, ℕ, zero, suc, ◌+◌, ◌-◌, ◌*◌, ◌<◌, ◌≤◌, List, ◌++◌, length, take, drop}
+use Rattle.std.proofs.Common.{◌≡◌, ℕ, zero, suc, ◌+◌, ◌-◌, ◌*◌, ◌<◌, ◌≤◌, List}
+use Rattle.std.proofs.Common.{◌++◌, length, take, drop}
 use Rattle.std.proofs.Common.{refl, sym, ◌∙◌, ap, ap₂, arith, add-zero, append_assoc}
 use Rattle.std.proofs.Common.{length-append, zero-add}
 use Rattle.std.proofs.Math.Seq.{drop-append_seam, take-add, take-append_seam}

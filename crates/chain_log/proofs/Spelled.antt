@@ -1,5 +1,6 @@
 -- A record at its place: as it was written, and as it is loaded.
-use Rattle.std.proofs.Common.{◌≡◌, ℕ, ◌+◌, ◌-◌, ◌*◌, ◌<◌, ◌≤◌, ◌^◌, List, ◌++◌, length, take, drop, Some, replicate}
+use Rattle.std.proofs.Common.{◌≡◌, ℕ, ◌+◌, ◌-◌, ◌*◌, ◌<◌, ◌≤◌, ◌^◌, List}
+use Rattle.std.proofs.Common.{◌++◌, length, take, drop, Some, replicate}
 use Rattle.std.proofs.Common.{sym, ◌∙◌, ap, arith, append_assoc, length-append, take-take}
 use Rattle.std.proofs.lemmas.List.{drop-drop, drop-take, length-replicate, take-append-le, take_all}
 use Rattle.octet_fields.specs.Fields.{field}
@@ -18,7 +19,8 @@ use Rattle.chain_log.specs.declared.place.Place.{Place}
 use Rattle.chain_log.specs.Loaded.{IsFound, IsPlace, octets_at, packet_in}
 use Rattle.chain_log.specs.Pages.{AreWritten, block_octets, page_in, with_pages}
 use Rattle.chain_log.proofs.Judging.{none_first}
-use Rattle.chain_log.proofs.Octets.{block_length, block_parts, octets_length, octets_whole, pages_of_it}
+use Rattle.chain_log.proofs.Octets.{block_length, block_parts, octets_length, octets_whole}
+use Rattle.chain_log.proofs.Octets.{pages_of_it}
 
 pub record_length : (number stamp : ℕ) (packet : List ℕ)
     → length (record_pages number stamp packet) ≡ 256 * charge_of (length packet)
@@ -62,14 +64,16 @@ stands blocks content block page number stamp packet pages inside_it within numb
     let zeros : List ℕ = replicate (256 * n - (16 + length packet)) 0 in
     let front_long : length front ≡ 256 * page =
     octets_length blocks content page (256 * block) pages (omega arith) in
-    let here : octets_from content (256 * block + page) n ≡ record_octets number stamp packet ++ zeros =
+    let here : octets_from content (256 * block + page) n
+    ≡ record_octets number stamp packet ++ zeros =
     octets_whole content (record_pages number stamp packet) (256 * block + page) n
     (record_length number stamp packet) are in
     let parts : block_octets content block
     ≡ front ++ (record_octets number stamp packet ++ (zeros ++ rest)) =
     block_parts content block page n within
     ∙ ap (λ (l : List ℕ). front ++ (l ++ rest)) here
-    ∙ ap (λ (l : List ℕ). front ++ l) (append_assoc (record_octets number stamp packet) zeros rest) in
+    ∙ ap (λ (l : List ℕ). front ++ l)
+    (append_assoc (record_octets number stamp packet) zeros rest) in
     ap (λ (l : List ℕ). record_at l number page) parts
     ∙ placed_is_read front (zeros ++ rest) packet number stamp page number_fits stamp_fits whole
     front_long within
@@ -108,8 +112,8 @@ module _ (blocks : ℕ) (content : ℕ → List ℕ) (place : Place) (number : �
   size = 256 * charge_of place.length
 
   spells : Spells block number place.page meaning
-  spells = spells_read block number place.page meaning (block_length blocks content place.block pages
-      fits.block) is
+  spells = spells_read block number place.page meaning
+      (block_length blocks content place.block pages fits.block) is
 
   cut : octets ≡ take size (drop (256 * place.page) block)
   cut = pages_of_it blocks content place.block place.page (charge_of place.length) pages fits.block

@@ -9,8 +9,8 @@ ghost use Rattle.chain_log.specs.declared.place.Place.{Place};
 ghost use Rattle.chain_log.specs.Loaded.{IsFound, IsPlace, octets_at};
 ghost use Rattle.chain_log.specs.Pages.{AreWritten, block_octets};
 
-/// A record at its place reads as it was written, on each content of a device whose pages there hold
-/// it: after a barrier, in each image.
+/// A record at its place reads as it was written, on each content of a device whose pages there
+/// hold it: after a barrier, in each image.
 pub fn records_stand()
     ensures { (blocks : ℕ) (content : ℕ → List ℕ) (block page number stamp : ℕ) (packet : List ℕ)
         → IsContent blocks content → block < blocks
