@@ -37,7 +37,8 @@ module _ (number long : ℕ) (octets : List ℕ) where
   own = (long, said_length packet)
 
   abbrev FirstIs : ℕ → ℕ → Type 0
-  FirstIs kept found = (rest : List (ℕ × ℕ)) × (differences number long octets ≡ (kept, found) ∷ rest)
+  FirstIs kept found =
+      (rest : List (ℕ × ℕ)) × (differences number long octets ≡ (kept, found) ∷ rest)
 
   pub number_first : number ≢ field 4 6 octets → FirstIs number (field 4 6 octets)
   number_first other = (
@@ -90,7 +91,8 @@ pub fault_is : (octets : List ℕ) (number long block page kept found here : ℕ
     → (rest : List (ℕ × ℕ)) × (differences number long octets ≡ (kept, here) ∷ rest)
     → IsFirstDifference octets number long fault
 fault_is octets number long block page kept found here fault is same first =
-    subst (IsFirstDifference octets number long) (sym (is ∙ ap (Mismatch block page kept) same)) first
+    subst (IsFirstDifference octets number long)
+    (sym (is ∙ ap (Mismatch block page kept) same)) first
 
 nil_is_not : (pair : ℕ × ℕ) (rest : List (ℕ × ℕ)) → ◌≡◌ {A = List (ℕ × ℕ)} [] (pair ∷ rest) → ⊥
 nil_is_not pair rest is = absurd (cc)

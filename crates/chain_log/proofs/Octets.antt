@@ -1,5 +1,6 @@
 -- Octets of pages one behind the other, taken apart and put together.
-use Rattle.std.proofs.Common.{◌≡◌, ℕ, zero, suc, ◌+◌, ◌-◌, ◌*◌, ◌<◌, ◌≤◌, List, ◌++◌, length, take, drop}
+use Rattle.std.proofs.Common.{◌≡◌, ℕ, zero, suc, ◌+◌, ◌-◌, ◌*◌, ◌<◌, ◌≤◌, List}
+use Rattle.std.proofs.Common.{◌++◌, length, take, drop}
 use Rattle.std.proofs.Common.{refl, sym, ◌∙◌, ap, ap₂, arith, add-zero, append_assoc}
 use Rattle.std.proofs.Common.{length-append, zero-add}
 use Rattle.std.proofs.Math.Seq.{drop-append_seam, take-add, take-append_seam}
@@ -38,6 +39,11 @@ octets_length blocks content (suc n) first pages within =
       (pages first (omega arith)).size,
       octets_length blocks content n (suc first) pages (omega arith),
     )
+
+pub block_length : (blocks : ℕ) (content : ℕ → List ℕ) (block : ℕ) → IsContent blocks content
+    → block < blocks → length (block_octets content block) ≡ 65536
+block_length blocks content block pages inside =
+    octets_length blocks content 256 (256 * block) pages (omega arith)
 
 -- the first pages of what was written
 pub octets_front : (content : ℕ → List ℕ) (octets : List ℕ) (first pages n : ℕ) → n ≤ pages

@@ -38,7 +38,8 @@ module _ {B : Type 0} (means : BoardMeaning B) (these : ℕ → Bool) where
         (weaker means old mid _ _ (reading.stays told).leaves
         (image_of_loosened (means.device old).blocks these (means.flash old)))
         (touching.leaves (tells_too reading.same told))
-        (λ image is. subst (λ (f : Flash). IsImage (means.device old).blocks (loosened these f) image)
+        (λ image is.
+        subst (λ (f : Flash). IsImage (means.device old).blocks (loosened these f) image)
         (reading.stays told).flash
         (subst (λ (d : Device). IsImage d.blocks (loosened these (means.flash mid)) image)
         reading.same is));

@@ -14,7 +14,8 @@ use Rattle.chain_log.specs.Pages.{block_octets, with_record}
 use Rattle.chain_log.specs.Tails.{Filling}
 
 -- The record of a place stands behind those of a tail too, under the number `to`.
-pub record IsCopied (place : Place) (number to : ℕ) (tail : Filling) (old new : Flash) : Type 0 where
+pub record IsCopied (place : Place) (number to : ℕ) (tail : Filling) (old new : Flash)
+    : Type 0 where
   pub meaning : Meaning
   pub found : IsFound (octets_at old.content place) number place.length meaning
   pub flash : new
@@ -46,7 +47,8 @@ pub record Copies {B : Type 0} (means : BoardMeaning B) (these : ℕ → Bool) (
     (old new : B) : Type 0 where
   pub others : TellsFlash means old → SameElsewhere these (means.flash old) (means.flash new)
   pub leaves : TellsFlash means old
-      → LeavesOnly means old new (IsImage (means.device old).blocks (loosened these (means.flash old)))
+      → LeavesOnly means old new
+      (IsImage (means.device old).blocks (loosened these (means.flash old)))
   pub unsent : TellsLink means old → SendsNothing means old new
   pub same : means.device new ≡ means.device old
   pub work : Works reads programs 0 0 (means.counts old) (means.counts new)

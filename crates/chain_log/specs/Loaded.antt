@@ -1,5 +1,6 @@
 -- What is judged when a record is loaded by its place.
-use Rattle.std.specs.Prelude.{◌≡◌, ◌≢◌, ⊤, ℕ, ◌+◌, ◌*◌, ◌<◌, ◌≤◌, ◌^◌, ◌==◌, not, List, [], ◌∷◌, length, take, drop, filter, Result, Ok, Err}
+use Rattle.std.specs.Prelude.{◌≡◌, ◌≢◌, ⊤, ℕ, ◌+◌, ◌*◌, ◌<◌, ◌≤◌, ◌^◌, ◌==◌, not}
+use Rattle.std.specs.Prelude.{List, [], ◌∷◌, length, take, drop, filter, Result, Ok, Err}
 use Rattle.octet_fields.specs.Fields.{field}
 use Rattle.space_packet.specs.Charge.{charge_of}
 use Rattle.space_packet.specs.Packet.{said_length, version_of}

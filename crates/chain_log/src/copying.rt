@@ -20,8 +20,8 @@ use board::{Board, Failed};
 const LONGEST: usize = 4352;
 
 /// Loads a record and appends it to a tail under the number `to`, with the stamp that was read, and
-/// returns its first page there. `buf` has at least 8,704 octets, which may be any afterwards. There
-/// is no barrier: until one, a power loss may leave anything in the copy's pages.
+/// returns its first page there. `buf` has at least 8,704 octets, which may be any afterwards.
+/// There is no barrier: until one, a power loss may leave anything in the copy's pages.
 ///
 /// `Flash`: a read failed, and the tail is as before, or a program failed, and the tail is shut.
 /// `Mismatch`: what is found is not the record that was kept; then nothing changes.

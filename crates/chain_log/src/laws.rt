@@ -9,8 +9,8 @@ ghost use Rattle.chain_log.specs.declared.place.Place.{Place};
 ghost use Rattle.chain_log.specs.Loaded.{IsFound, IsPlace, octets_at};
 ghost use Rattle.chain_log.specs.Pages.{AreWritten, block_octets};
 
-/// A record at its place reads as it was written, on each content of a device whose pages there hold
-/// it: after a barrier, in each image.
+/// A record at its place reads as it was written, on each content of a device whose pages there
+/// hold it: after a barrier, in each image.
 pub fn records_stand()
     ensures { (blocks : ℕ) (content : ℕ → List ℕ) (block page number stamp : ℕ) (packet : List ℕ)
         → IsContent blocks content → block < blocks
@@ -20,6 +20,17 @@ pub fn records_stand()
         (record_pages number stamp packet)
         → record_at (block_octets content block) number page
         ≡ Some (record { number = number; stamp = stamp; packet = packet }) }
+{}
+
+/// A record is spelled at its place as long as its pages hold what they held, whatever becomes of
+/// all others.
+pub fn records_stay()
+    ensures { (blocks : ℕ) (content other : ℕ → List ℕ) (block page number : ℕ) (meaning : Meaning)
+        → IsContent blocks content → IsContent blocks other → block < blocks
+        → record_at (block_octets content block) number page ≡ Some meaning
+        → ((i : ℕ) → i < charge_of (length meaning.packet)
+        → other (256 * block + page + i) ≡ content (256 * block + page + i))
+        → record_at (block_octets other block) number page ≡ Some meaning }
 {}
 
 /// A record that is spelled at a place is what is loaded there, and no pair differs.

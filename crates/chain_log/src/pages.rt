@@ -10,9 +10,9 @@ ghost use Rattle.chain_log.specs.Pages.{IsCleanFrom, with_pages};
 
 use board::{Board, Failed};
 
-/// Programs octets into `pages` clean pages of a block from the page `first` on, in ascending order.
-/// Until a barrier, a stop may leave anything in them. `Failed`: a program failed; no other page
-/// changed.
+/// Programs octets into `pages` clean pages of a block from the page `first` on, in ascending
+/// order. Until a barrier, a stop may leave anything in them. `Failed`: a program failed; no other
+/// page changed.
 pub(crate) fn write_pages<B: Board>(
     board: &mut B,
     block: u32,

@@ -1,7 +1,7 @@
 // The block at the end of a chain.
 //
-// Its pages below `used` hold records, one behind the other from page 0 on. Those from `used` on are
-// clean: that is the caller's to know, and what `begin` and `append` leave.
+// Its pages below `used` hold records, one behind the other from page 0 on. Those from `used` on
+// are clean: that is the caller's to know, and what `begin` and `append` leave.
 ghost use Rattle.std.specs.Prelude.{◌≡◌, ◌<◌, ◌≤◌, ◌+◌, ◌*◌, ◌^◌, nat_le, length, Some};
 ghost use Rattle.std.specs.Prelude.{IfOk, OnOk, OnErr};
 ghost use Rattle.board.specs.Counts.{Rose, RoseBy};
@@ -106,8 +106,8 @@ impl Tail {
     /// 1/65,536 s, and `buf` has at least 4,352 octets, which may be any afterwards. There is no
     /// barrier: until one, a power loss may leave anything in the record's pages.
     ///
-    /// `Failed`: a program failed. The record's pages then hold anything, no other page changed, and
-    /// the tail is shut: it counts as full, so no record fits.
+    /// `Failed`: a program failed. The record's pages then hold anything, no other page changed,
+    /// and the tail is shut: it counts as full, so no record fits.
     pub fn append<B: Board>(
         &mut self,
         board: &mut B,

@@ -7,7 +7,8 @@ use Rattle.chain_log.proofs.Judging.{version_first}
 use Rattle.chain_log.proofs.loading.judge.Goals as goal
 
 -- the packet, as a part of the octets
-part_is : (octets : List ℕ) (long : ℕ) → take (16 + long - 16) (drop 16 octets) ≡ packet_in octets long
+part_is : (octets : List ℕ) (long : ℕ)
+    → take (16 + long - 16) (drop 16 octets) ≡ packet_in octets long
 part_is octets long =
     let same : 16 + long - 16 ≡ long = omega arith in
     ap (λ (k : ℕ). take k (drop 16 octets)) same

@@ -20,6 +20,7 @@ returns-in-Ok-clause-spelled g c told meaning is long =
     (found (means.device old).blocks content place c.args.number meaning
     (g.met.B.Board.content_pages old told) c.requires.place is long)
     (subst (λ (octets : List ℕ). IfOk c.judge.result
-    (λ view. IsFound octets c.args.number place.length (meaning_of view))) read c.judge.ensures.found)
+    (λ view. IsFound octets c.args.number place.length (meaning_of view))) read
+    c.judge.ensures.found)
     (subst (λ (octets : List ℕ). IfErr c.judge.result
     (IsFirstDifference octets c.args.number place.length)) read c.judge.ensures.differs)

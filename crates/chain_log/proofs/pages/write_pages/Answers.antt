@@ -17,7 +17,8 @@ loop-i-init g c =
     let first = 256 * c.args.block + c.args.first in
     let these = pages_from first c.args.pages in
     record {
-      flash = λ told. sym (written_none first (λ p. page_in c.args.octets.now (p - first)) (means.flash old));
+      flash = λ told. sym
+          (written_none first (λ p. page_in c.args.octets.now (p - first)) (means.flash old));
       others = λ told. same_elsewhere these (means.flash old) (means.flash old) refl;
       seen = λ some told. absurd {A = means.images old (means.moment old) (means.flash old).content}
           (omega arith);

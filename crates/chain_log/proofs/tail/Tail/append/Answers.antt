@@ -45,7 +45,8 @@ returns-clause-spelled g c told =
     subst (λ (f : Flash). IsContent (means.device old).blocks f.content) is_after
     (subst (λ (d : Device). IsContent d.blocks (means.flash new).content) same
     (g.met.B.Board.content_pages new (tells_too same told))) in
-    ap (λ (f : Flash). record_at (block_octets f.content tail.block) c.args.number tail.used) is_after
+    ap (λ (f : Flash). record_at (block_octets f.content tail.block) c.args.number tail.used)
+    is_after
     ∙ stands (means.device old).blocks after.content tail.block tail.used c.args.number
     c.args.stamp packet pages c.requires.block.1 c.requires.fits c.ranges.number.fits
     c.requires.stamp c.args.packet.whole
