@@ -2,4 +2,4 @@ mod Judging
 pub mod Octets
 mod Programs
 mod ReadsThenPrograms
-mod Spelled
+pub mod Spelled

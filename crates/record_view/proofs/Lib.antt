@@ -1,4 +1,3 @@
 pub mod Spelling
 pub mod Walking
 pub mod Placing
-pub mod Windows

@@ -1,5 +1,5 @@
 // Laws on records.
-ghost use Rattle.std.specs.Prelude.{◌≡◌, ◌↔◌, ◌<◌, ◌≤◌, ◌+◌, ◌*◌, ◌^◌, ◌++◌, ℕ, List, Some, drop, length, take};
+ghost use Rattle.std.specs.Prelude.{◌≡◌, ◌↔◌, ◌<◌, ◌≤◌, ◌+◌, ◌*◌, ◌^◌, ◌++◌, ℕ, List, Some, length};
 ghost use Rattle.space_packet.specs.Charge.{charge_of};
 ghost use Rattle.space_packet.specs.Packet.{IsPacket};
 ghost use Rattle.record_view.specs.Records.{Meaning, Spells, record_at};
@@ -21,13 +21,4 @@ pub fn written_records_are_read()
         → page + charge_of (length packet) ≤ 256
         → record_at (front ++ (record_octets number stamp packet ++ rest)) number page
         ≡ Some (record { number = number; stamp = stamp; packet = packet }) }
-{}
-
-/// A record is spelled by each block whose octets in the record's pages are the same.
-pub fn records_are_read_from_their_pages()
-    ensures { (block other : List ℕ) (number page : ℕ) (meaning : Meaning) → length block ≡ 65536
-        → record_at block number page ≡ Some meaning
-        → take (256 * charge_of (length meaning.packet)) (drop (256 * page) other)
-        ≡ take (256 * charge_of (length meaning.packet)) (drop (256 * page) block)
-        → record_at other number page ≡ Some meaning }
 {}

@@ -11,7 +11,7 @@ mod reading;
 mod view;
 mod writing;
 
-pub use laws::{records_are_read, records_are_read_from_their_pages, written_records_are_read};
+pub use laws::{records_are_read, written_records_are_read};
 pub use link::Link;
 pub use reading::Records;
 pub use view::{RecordView, read_record};

@@ -1,4 +1,3 @@
-pub mod BlockPages
 pub mod Eachs
 pub mod Records
 pub mod More

@@ -9,8 +9,9 @@ use Rattle.space_packet.specs.Charge.{charge_of}
 use Rattle.record_view.specs.Records.{Meaning, number_after, record_at, records_from, with_next}
 use Rattle.record_view.proofs.Spelling.{spells_read}
 use Rattle.chain_log.specs.Pages.{block_octets}
+use Rattle.chain_log.proofs.Octets.{octets_length}
+use Rattle.chain_log.proofs.Spelled.{stays}
 use Rattle.store_load.specs.Extents.{Extent, all_records, pages_in, read_extent}
-use Rattle.store_load.proofs.BlockPages.{length-block, record_stays}
 use Rattle.store_load.proofs.Eachs.{given_then}
 
 -- the records are those that the block spells, as many as were asked for
@@ -127,8 +128,10 @@ module _ (blocks : ℕ) (image other : ℕ → List ℕ) (content : IsContent bl
       → other (256 * block + i) ≡ image (256 * block + i) =
       λ i low high. same i low (subst (λ (l : List Meaning). i < page + pages_in l) whole high) in
       cons_records (block_octets other block) count number page meaning rest
-      (record_stays blocks image other block number page meaning content others within here
-      (λ i low high. near i low (omega (arith, high))))
+      (stays blocks image other block page number meaning content others within here
+      (λ i lt.
+      let there : 256 * block + page + i ≡ 256 * block + (page + i) = omega arith in
+      ap other there ∙ near (page + i) (omega arith) (omega (arith, lt)) ∙ sym (ap image there)))
       (records_stay block count (number_after number) (page + charge_of (length meaning.packet)) rest within behind
       (λ i low high. near i (omega (arith, low)) (omega (arith, high))))
       ∙ ap Some whole
@@ -150,7 +153,7 @@ pub extent_within : (blocks : ℕ) (image : ℕ → List ℕ) → IsContent bloc
 unfolding read_extent
 extent_within blocks image content extent records within is =
     let fits = records_within (block_octets image extent.block) extent.count extent.first 0 records
-    (length-block blocks image extent.block content within) is (omega arith) in omega (arith, fits)
+    (octets_length blocks image 256 (256 * extent.block) content (omega (arith, within))) is (omega arith) in omega (arith, fits)
 
 pub extent_length : (image : ℕ → List ℕ) (extent : Extent) (records : List Meaning)
     → read_extent image extent ≡ Some records → length records ≡ extent.count
