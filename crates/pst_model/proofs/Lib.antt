@@ -1,7 +1,10 @@
+mod AllKinds
 mod AnswerRows
 pub mod Carried
+mod CheckRows
 mod ContentRows
 pub mod Counted
+pub mod Effects
 pub mod ItemOctets
 mod ItemRows
 pub mod Joined
@@ -10,13 +13,16 @@ pub mod KindsRead
 pub mod KindsWritten
 pub mod Leasts
 pub mod Puts
+mod RangeRows
 mod ReportRows
 pub mod RequestData
 pub mod RequestItems
 mod RequestRows
 pub mod Runs
 pub mod SpelledRequests
+mod StoreRows
 pub mod StoredPages
+pub mod StoresKept
 mod TableRows
 mod TextRows
 pub mod Texts
