@@ -46,7 +46,7 @@ pub data Effect (blocks : ℕ) (table : Table) : Table → Type 0 where
   Removes : (identifier : ℕ) → Effect blocks table (record table { stores = without_store identifier table.stores })
 
 -- each of these checks was passed
-abbrev Passed : List (Bool × ℕ) → Type 0
+abbrev pub Passed : List (Bool × ℕ) → Type 0
 Passed [] = Unit {0}
 Passed (check ∷ checks) = (check.0 ≡ false) × Passed checks
 

@@ -3,8 +3,10 @@ mod AnswerRows
 pub mod Carried
 mod CheckRows
 mod ContentRows
+pub mod Copied
 pub mod Counted
 pub mod Effects
+pub mod Filled
 pub mod ItemOctets
 mod ItemRows
 pub mod Joined
@@ -14,11 +16,13 @@ pub mod KindsWritten
 pub mod Leasts
 pub mod Puts
 mod RangeRows
+pub mod Ranged
 mod ReportRows
 pub mod RequestData
 pub mod RequestItems
 mod RequestRows
 pub mod Runs
+pub mod Shapes
 pub mod SpelledRequests
 mod StoreRows
 pub mod StoredPages
@@ -26,6 +30,7 @@ pub mod StoresKept
 mod TableRows
 mod TextRows
 pub mod Texts
+pub mod Timed
 pub mod WholeRequests
 pub mod Withins
 pub mod WrittenForms
