@@ -14,6 +14,7 @@ pub mod KindsFound
 pub mod KindsRead
 pub mod KindsWritten
 pub mod Leasts
+pub mod Orders
 pub mod Puts
 mod RangeRows
 pub mod Ranged
@@ -21,6 +22,7 @@ mod ReportRows
 pub mod RequestData
 pub mod RequestItems
 mod RequestRows
+pub mod Reservations
 pub mod Runs
 pub mod Shapes
 pub mod SpelledRequests
@@ -32,6 +34,7 @@ mod TextRows
 pub mod Texts
 pub mod Timed
 pub mod WholeRequests
+pub mod Windows
 pub mod Withins
 pub mod WrittenForms
 pub mod WrittenRequests

@@ -19,7 +19,7 @@ pub use rows::{ConfigRow, StatusRow, SummaryRow};
 pub use stores::{
     bounded_stores_drop_nothing, configurations_stay_lawful, contents_stay_within,
     copies_leave_their_source, ranges_stay_within, reservations_stay_within, stores_stay_few,
-    stores_stay_in_order, times_never_fall,
+    stores_stay_in_order, times_never_fall, times_part_the_packets,
 };
 pub use table::{
     behind_stays_within, circular_stores_refuse_only_larger, failed_instructions_change_nothing,

@@ -1,14 +1,16 @@
 // What holds of the stores of a table behind every command.
-ghost use Rattle.std.specs.Prelude.{◌≡◌, ◌≤◌, ℕ, All, IfOk, Ok, false, length};
+ghost use Rattle.std.specs.Prelude.{◌≡◌, ◌≤◌, ◌-◌, ℕ, All, IfOk, List, Ok, drop, false, filter, length, nat_le, nat_lt, take};
+ghost use Rattle.std.specs.List.Sorted.{IsNonDecreasingBy};
 ghost use Rattle.control_defs.specs.declared.instructions.Instruction.{Instruction};
 ghost use Rattle.control_defs.specs.declared.instructions.Instruction.TheVariants.{Copy};
 ghost use Rattle.control_defs.specs.declared.instructions.StoreKind.TheVariants.{Bounded};
 ghost use Rattle.pst_model.specs.Command.{Command};
 ghost use Rattle.pst_model.specs.Instructions.{instruct};
-ghost use Rattle.pst_model.specs.Laws.{AreDistinct, HasCopied, InOrder, IsConfigured, IsFilled, IsRanged, IsReserved, IsTimed, identifiers};
+ghost use Rattle.pst_model.specs.Laws.{AreDistinct, HasCopied, InOrder, IsConfigured, IsFilled, IsRanged, IsReserved, IsTimed, identifiers, time_of};
+ghost use Rattle.pst_model.specs.Ranges.{count_below, count_up_to, window_of};
 ghost use Rattle.pst_model.specs.Rules.{is_refused, to_drop};
 ghost use Rattle.pst_model.specs.Run.{step};
-ghost use Rattle.pst_model.specs.Table.{Store, Table};
+ghost use Rattle.pst_model.specs.Table.{Store, Stored, Table};
 
 /// A range has a position, and ends within the packets of its store.
 pub fn ranges_stay_within()
@@ -79,4 +81,21 @@ pub fn bounded_stores_drop_nothing()
     ensures { (store : Store) (need : ℕ) → store.kind ≡ Bounded → IsFilled store
         → is_refused store need ≡ false
         → to_drop store need ≡ 0 }
+{}
+
+/// Along times that never fall, the packets of a window are a run of neighbours, from as many as are
+/// before it on; those that a deletion leaves are the ones later than its time; and those that open
+/// retrieval has ahead from a time are the ones at it or later.
+pub fn times_part_the_packets()
+    ensures window { (t1 t2 : ℕ) (packets : List Stored) → t1 ≤ t2
+        → IsNonDecreasingBy time_of packets
+        → window_of t1 t2 packets
+        ≡ take (count_up_to t2 packets - count_below t1 packets)
+        (drop (count_below t1 packets) packets) }
+    ensures deleted { (t : ℕ) (packets : List Stored) → IsNonDecreasingBy time_of packets
+        → drop (count_up_to t packets) packets
+        ≡ filter (λ (stored : Stored). nat_lt t stored.time) packets }
+    ensures ahead { (t : ℕ) (packets : List Stored) → IsNonDecreasingBy time_of packets
+        → drop (count_below t packets) packets
+        ≡ filter (λ (stored : Stored). nat_le t stored.time) packets }
 {}

@@ -1,4 +1,4 @@
-use Rattle.pst_model.proofs.Shapes.{instruct_reserved, step_reserved}
+use Rattle.pst_model.proofs.Reservations.{instruct_reserved, step_reserved}
 use Rattle.pst_model.proofs.stores.reservations_stay_within.Goals as goal
 
 pub returns : goal.returns

@@ -1,4 +1,4 @@
-use Rattle.pst_model.proofs.Shapes.{step_few}
+use Rattle.pst_model.proofs.Orders.{step_few}
 use Rattle.pst_model.proofs.stores.stores_stay_few.Goals as goal
 
 pub returns : goal.returns

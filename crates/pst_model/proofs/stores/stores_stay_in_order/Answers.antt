@@ -1,4 +1,4 @@
-use Rattle.pst_model.proofs.Shapes.{step_order, step_distinct}
+use Rattle.pst_model.proofs.Orders.{step_order, step_distinct}
 use Rattle.pst_model.proofs.stores.stores_stay_in_order.Goals as goal
 
 pub returns : goal.returns
