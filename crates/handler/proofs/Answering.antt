@@ -7,15 +7,15 @@ use Rattle.control_defs.specs.declared.instructions.Instruction.{Instruction}
 use Rattle.control_defs.specs.declared.instructions.Instruction.TheVariants.{ForwardReport, ReportTypes, Summary, Status, Configuration}
 use Rattle.pus_request.specs.declared.items.Items.{Items}
 use Rattle.pus_request.specs.View.{listed}
-use Rattle.pst_model.specs.Answers.{replied, replies_from, reply}
+use Rattle.pst_model.specs.Replies.{behind_outputs, replied, replies_from, reply}
 use Rattle.pst_model.specs.declared.verdicts.Verdict.{Verdict}
 use Rattle.pst_model.specs.Contents.{content_report, types_where}
-use Rattle.pst_model.specs.Instructions.{is_named}
+use Rattle.pst_model.specs.Changes.{is_named}
 use Rattle.pst_model.specs.Laws.{is_reply}
 use Rattle.pst_model.specs.Reports.{Report, count_behind, types_report, verdict_report}
 use Rattle.pst_model.specs.Output.{output_line}
 use Rattle.pst_model.specs.Rules.{Output, Step, Reply}
-use Rattle.pst_model.specs.Run.{behind_outputs, lines_of}
+use Rattle.pst_model.specs.Run.{lines_of}
 use Rattle.pst_model.specs.Table.{Store, Table}
 use Rattle.pst_model.proofs.Counted.{count_behind-more, replies_from-append}
 use Rattle.pst_model.proofs.Runs.{lines_of-append}

@@ -5,7 +5,7 @@ use Rattle.std.proofs.lemmas.List.Sums.{sum_by-append}
 use Rattle.std.specs.Prelude.{if◌then◌else◌}
 use Rattle.pst_model.specs.declared.verdicts.Verdict.{Verdict}
 use Rattle.pst_model.specs.declared.verdicts.Verdict.TheVariants.{Accepted}
-use Rattle.pst_model.specs.Answers.{replies_from, reply}
+use Rattle.pst_model.specs.Replies.{replies_from, reply}
 use Rattle.pst_model.specs.Laws.{is_reply}
 use Rattle.pst_model.specs.Output.{output_line}
 use Rattle.pst_model.specs.Reports.{Report, count_behind, report_packet, verdict_report}

@@ -1,7 +1,7 @@
 // What reports and lines are written into before they are sent.
 ghost use Rattle.std.specs.Prelude.{◌≡◌, ◌≤◌, ◌<◌, ◌^◌, ◌∷◌, [], ℕ, length, take, IfNone, IfSome, IfOk, OnOk, OnErr};
 ghost use Rattle.handler.specs.Sending.{BreaksIn, SendsLines};
-ghost use Rattle.pst_model.specs.Answers.{reply};
+ghost use Rattle.pst_model.specs.Replies.{reply};
 ghost use Rattle.pst_model.specs.Output.{output_line};
 ghost use Rattle.pst_model.specs.Reports.{report_packet, verdict_report};
 ghost use Rattle.pst_model.specs.Rules.{OutputKind, Reply};

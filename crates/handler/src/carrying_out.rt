@@ -3,7 +3,8 @@ ghost use Rattle.std.specs.Prelude.{◌≡◌, ℕ, false};
 ghost use Rattle.space_packet.specs.View.{octets_of};
 ghost use Rattle.pus_header.specs.Commands.{identifier_of};
 ghost use Rattle.pus_request.specs.View.{asked, listed};
-ghost use Rattle.pst_model.specs.Answers.{answer, carry_out, is_pending, replied};
+ghost use Rattle.pst_model.specs.Answers.{answer, carry_out, is_pending};
+ghost use Rattle.pst_model.specs.Replies.{replied};
 ghost use Rattle.handler.specs.Asked.{reports_in};
 ghost use Rattle.handler.specs.Table.{table_of};
 
@@ -27,7 +28,7 @@ pub struct Outcome<'a> {
 // Carries out instructions in their order, and tells which failed.
 fn carry_out_all(table: &mut MemTable, items: &Items<'_>) -> Failures
     requires { is_pending (asked items.now).0 (asked items.now).1 ≡ false }
-    ensures { carry_out (listed items.now) (table_of table.old)
+    ensures { (blocks : ℕ) → carry_out blocks (listed items.now) (table_of table.old)
         ≡ record { table = table_of table.new; failures = result.items } }
 {
     let mut failures = Failures::new();
@@ -42,7 +43,7 @@ fn carry_out_all(table: &mut MemTable, items: &Items<'_>) -> Failures
 /// Judges a request, carries out its instructions where no judgement refuses it, and tells what
 /// answers it.
 pub fn carry_out_request<'a>(table: &mut MemTable, packet: PacketView<'a>) -> Outcome<'a>
-    ensures { (number moment : ℕ) → answer number moment (octets_of packet.entry)
+    ensures { (blocks number moment : ℕ) → answer blocks number moment (octets_of packet.entry)
         (table_of table.old)
         ≡ replied number moment (table_of table.new)
         (reports_in (identifier_of (octets_of packet.entry)) result (table_of table.new)) }

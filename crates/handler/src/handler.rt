@@ -73,7 +73,7 @@ fn send_next<B: Board>(
 
 impl Handler {
     ghost use Rattle.pst_model.specs.Answers.{answer};
-    ghost use Rattle.pst_model.specs.Rules.{arrive};
+    ghost use Rattle.pst_model.specs.Arrivals.{arrive};
     ghost use Rattle.pst_model.specs.Table.{after_format};
     ghost use Rattle.handler.specs.Faults.{OnLink, OnNoMemory};
     ghost use Rattle.handler.specs.Handler.{is_open, table_in};
@@ -147,9 +147,9 @@ impl Handler {
         requires open { IsTrue (is_open self.old) }
         requires moment { moment < 2 ^ 48 }
         ensures done { IfOk result (CarriesOut B.means board.old board.new
-            (λ number. answer number moment (octets_of packet.entry) (table_in self.old)) (table_in self.new)) }
+            (λ number. answer (B.means.device board.old).blocks number moment (octets_of packet.entry) (table_in self.old)) (table_in self.new)) }
         ensures breaks { OnLink result ((number : ℕ) → BreaksIn B.means board.old board.new
-            (answer number moment (octets_of packet.entry) (table_in self.old)).outputs) }
+            (answer (B.means.device board.old).blocks number moment (octets_of packet.entry) (table_in self.old)).outputs) }
         ensures faults { OnErr result (result ≡ Err HandlerFault.Link) }
         ensures open { is_open self.new ≡ is_ok result }
     {

@@ -1,6 +1,6 @@
 // The reports that answer a request, one behind the other.
 ghost use Rattle.std.specs.Prelude.{◌≡◌, ◌≤◌, ◌<◌, ◌^◌, ℕ, map, length, IfOk, OnOk, OnErr};
-ghost use Rattle.pst_model.specs.Answers.{replied};
+ghost use Rattle.pst_model.specs.Replies.{replied};
 ghost use Rattle.pst_model.specs.Reports.{verdict_report};
 ghost use Rattle.handler.specs.Asked.{content_asked, reports_in};
 ghost use Rattle.handler.specs.Counting.{IsCountOf, IsSmall};

@@ -53,12 +53,12 @@ impl MemTable {
     ghost use Rattle.space_packet.specs.View.{octets_of};
     ghost use Rattle.control_defs.specs.Instructions.{IsInstruction};
     ghost use Rattle.control_defs.specs.Lists.{IsPatternList};
-    ghost use Rattle.handler.specs.Refusals.{code_of};
+    ghost use Rattle.handler.specs.Refusals.{IsOutcome};
     ghost use Rattle.handler.specs.Table.{HasNext, is_chosen, is_stored, store_in, store_of, table_of, table_with};
     ghost use Rattle.pst_model.specs.Answers.{is_carried};
-    ghost use Rattle.pst_model.specs.Instructions.{instruct};
     ghost use Rattle.pst_model.specs.Reports.{count_behind};
-    ghost use Rattle.pst_model.specs.Rules.{Retrieved, arrive, grant};
+    ghost use Rattle.pst_model.specs.Arrivals.{arrive};
+    ghost use Rattle.pst_model.specs.Rules.{Retrieved, grant};
     ghost use Rattle.pst_model.specs.Table.{after_format};
 
     /// The table after a format, with room for the 64 packets that its store can have.
@@ -167,10 +167,7 @@ impl MemTable {
     pub fn carry_out(&mut self, instruction: Instruction) -> Result<(), Refusal>
         requires carried { is_carried instruction ≡ true }
         requires lawful { IsInstruction instruction }
-        ensures { MatchResult result
-            (λ _. instruct instruction (table_of self.old) ≡ Ok (table_of self.new))
-            (λ refusal. (instruct instruction (table_of self.old) ≡ Err (code_of refusal))
-            × (table_of self.new ≡ table_of self.old)) }
+        ensures { IsOutcome instruction (table_of self.old) (table_of self.new) result }
     {
         match instruction {
             Instruction::ForwardAdd(pattern) => add_pattern(&mut self.forward, pattern),
@@ -189,11 +186,8 @@ impl MemTable {
 
     fn add_type(&mut self, store: u16, pattern: Pattern) -> Result<(), Refusal>
         requires { IsInstruction (Instruction.AddTypes store pattern) }
-        ensures { MatchResult result
-            (λ _. instruct (Instruction.AddTypes store pattern) (table_of self.old)
-            ≡ Ok (table_of self.new))
-            (λ refusal. (instruct (Instruction.AddTypes store pattern) (table_of self.old)
-            ≡ Err (code_of refusal)) × (table_of self.new ≡ table_of self.old)) }
+        ensures { IsOutcome (Instruction.AddTypes store pattern) (table_of self.old) (table_of self.new)
+            result }
     {
         if store != BOOT_STORE {
             return Err(Refusal::UnknownStore);
@@ -202,11 +196,8 @@ impl MemTable {
     }
 
     fn delete_type(&mut self, store: u16, pattern: Pattern) -> Result<(), Refusal>
-        ensures { MatchResult result
-            (λ _. instruct (Instruction.DeleteTypes store pattern) (table_of self.old)
-            ≡ Ok (table_of self.new))
-            (λ refusal. (instruct (Instruction.DeleteTypes store pattern) (table_of self.old)
-            ≡ Err (code_of refusal)) × (table_of self.new ≡ table_of self.old)) }
+        ensures { IsOutcome (Instruction.DeleteTypes store pattern) (table_of self.old) (table_of self.new)
+            result }
     {
         if store != BOOT_STORE {
             return Err(Refusal::UnknownStore);

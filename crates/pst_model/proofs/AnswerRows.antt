@@ -31,12 +31,12 @@ abbrev packet : List ℕ
 packet = 0x08 ∷ 0x64 ∷ 0xc0 ∷ 0x00 ∷ 0x00 ∷ 0x00 ∷ 0xaa ∷ []
 
 -- it is accepted and completed, and then nothing is retrieved
-suspended : (run after_format (Request 1 suspend ∷ Arrival 2 packet ∷ Grant 3 ∷ [])).outputs
+suspended : (run 64 after_format (Request 1 suspend ∷ Arrival 2 packet ∷ Grant 3 ∷ [])).outputs
     ≡ reply 1 (report 0 0x10 1 1 identifier) ∷ reply 1 (report 1 0x10 7 1 identifier) ∷ []
 suspended = refl
 
 -- suspended again, it fails: it is so already
-suspended_again : (run after_format (Request 1 suspend ∷ Request 2 suspend ∷ [])).outputs
+suspended_again : (run 64 after_format (Request 1 suspend ∷ Request 2 suspend ∷ [])).outputs
     ≡ reply 1 (report 0 0x10 1 1 identifier) ∷ reply 1 (report 1 0x10 7 1 identifier)
     ∷ reply 2 (report 2 0x10 1 2 identifier) ∷ reply 2 (report 3 0x13 4 2 (identifier ++ 22 ∷ 0 ∷ 1 ∷ [])) ∷ reply 2 (report 4 0x13 8 2 (identifier ++ 23 ∷ 0 ∷ 1 ∷ [])) ∷ []
 suspended_again = refl
@@ -48,7 +48,7 @@ other_apid = 0x18 ∷ 0x0b ∷ 0xc0 ∷ 0x00 ∷ 0x00 ∷ 0x04 ∷ 0x20 ∷ 0x0f
 abbrev no_items : List ℕ
 no_items = 0x18 ∷ 0x0a ∷ 0xc0 ∷ 0x00 ∷ 0x00 ∷ 0x05 ∷ 0x20 ∷ 0x0f ∷ 0x01 ∷ 0x00 ∷ 0x00 ∷ 0x00 ∷ []
 
-refused : (run after_format (Request 7 other_apid ∷ Request 8 no_items ∷ [])).outputs
+refused : (run 64 after_format (Request 7 other_apid ∷ Request 8 no_items ∷ [])).outputs
     ≡ reply 1 (report 0 0x13 2 7 (0x18 ∷ 0x0b ∷ 0xc0 ∷ 0x00 ∷ 0x01 ∷ 0x00 ∷ 0x0b ∷ [])) ∷ reply 2 (report 1 0x13 2 8 (identifier ++ 0x05 ∷ 0x00 ∷ 0x00 ∷ [])) ∷ []
 refused = refl
 
@@ -56,11 +56,11 @@ refused = refl
 abbrev disable_two : List ℕ
 disable_two = 0x18 ∷ 0x0a ∷ 0xc0 ∷ 0x00 ∷ 0x00 ∷ 0x09 ∷ 0x2f ∷ 0x0f ∷ 0x02 ∷ 0x00 ∷ 0x00 ∷ 0x02 ∷ 0x00 ∷ 0x01 ∷ 0x00 ∷ 0x02 ∷ []
 
-second_fails : (run after_format (Request 5 disable_two ∷ [])).outputs
+second_fails : (run 64 after_format (Request 5 disable_two ∷ [])).outputs
     ≡ reply 1 (report 0 0x10 1 5 identifier) ∷ reply 1 (report 1 0x13 4 5 (identifier ++ 6 ∷ 0 ∷ 2 ∷ [])) ∷ reply 1 (report 2 0x13 8 5 (identifier ++ 23 ∷ 0 ∷ 1 ∷ [])) ∷ []
 second_fails = refl
 
-first_holds : map (λ (store : Store). store.storage) (run after_format (Request 5 disable_two ∷ [])).table.stores ≡ false ∷ []
+first_holds : map (λ (store : Store). store.storage) (run 64 after_format (Request 5 disable_two ∷ [])).table.stores ≡ false ∷ []
 first_holds = refl
 
 -- of the judgements the first holds: APID, header, service, subtype, data
@@ -115,10 +115,10 @@ one_failed = refl
 abbrev last_count : Table
 last_count = record after_format { reports = 16383 }
 
-wraps : (run last_count (Request 1 suspend ∷ [])).table.reports ≡ 1
+wraps : (run 64 last_count (Request 1 suspend ∷ [])).table.reports ≡ 1
 wraps = refl
 
-wrapped : map (λ (output : Output). output.packet) (run last_count (Request 1 suspend ∷ [])).outputs
+wrapped : map (λ (output : Output). output.packet) (run 64 last_count (Request 1 suspend ∷ [])).outputs
     ≡ (0x08 ∷ 0x0a ∷ 0xff ∷ 0xff ∷ 0x00 ∷ 0x10 ∷ 0x20 ∷ 0x01 ∷ 0x01 ∷ 0x00 ∷ 0x00 ∷ 0x00 ∷ 0x00 ∷ 0x00 ∷ 0x00 ∷ 0x00 ∷ 0x00 ∷ 0x00 ∷ 0x01 ∷ identifier)
     ∷ report 0 0x10 7 1 identifier ∷ []
 wrapped = refl

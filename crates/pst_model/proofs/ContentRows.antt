@@ -23,25 +23,25 @@ identifier = 0x18 ∷ 0x0a ∷ 0xc0 ∷ 0x00 ∷ []
 abbrev status : List ℕ
 status = 0x18 ∷ 0x0a ∷ 0xc0 ∷ 0x00 ∷ 0x00 ∷ 0x04 ∷ 0x29 ∷ 0x0f ∷ 0x12 ∷ 0x00 ∷ 0x00 ∷ []
 
-status_report : (run after_format (Request 32 status ∷ [])).outputs
+status_report : (run 64 after_format (Request 32 status ∷ [])).outputs
     ≡ reply (report 0 0x10 1 1 32 identifier) ∷ reply (report 1 0x12 15 0x13 32 (0x01 ∷ 0x00 ∷ 0x01 ∷ 0x01 ∷ 0x01 ∷ 0x00 ∷ [])) ∷ reply (report 2 0x10 1 7 32 identifier) ∷ []
 status_report = refl
 
-status_counts : (run after_format (Request 32 status ∷ [])).table.reports ≡ 3
+status_counts : (run 64 after_format (Request 32 status ∷ [])).table.reports ≡ 3
 status_counts = refl
 
 -- [15,22] and [14,3] with the flags 0, and [15,5] of store 1
 abbrev configuration : List ℕ
 configuration = 0x18 ∷ 0x0a ∷ 0xc0 ∷ 0x00 ∷ 0x00 ∷ 0x04 ∷ 0x20 ∷ 0x0f ∷ 0x16 ∷ 0x00 ∷ 0x00 ∷ []
 
-configured : (run after_format (Request 1 configuration ∷ [])).outputs
+configured : (run 64 after_format (Request 1 configuration ∷ [])).outputs
     ≡ reply (report 0 0x15 15 0x17 1 (0x01 ∷ 0x00 ∷ 0x01 ∷ 0x00 ∷ 0x00 ∷ 0x00 ∷ 0x00 ∷ 0x40 ∷ 0x01 ∷ [])) ∷ []
 configured = refl
 
 abbrev types : List ℕ
 types = 0x18 ∷ 0x0a ∷ 0xc0 ∷ 0x00 ∷ 0x00 ∷ 0x06 ∷ 0x20 ∷ 0x0f ∷ 0x05 ∷ 0x00 ∷ 0x00 ∷ 0x00 ∷ 0x01 ∷ []
 
-every_type : (run after_format (Request 1 types ∷ [])).outputs
+every_type : (run 64 after_format (Request 1 types ∷ [])).outputs
     ≡ reply (report 0 0x14 15 6 1 (0x00 ∷ 0x01 ∷ 0x01 ∷ 0x00 ∷ 0x00 ∷ 0x00 ∷ 0x00 ∷ 0x00 ∷ [])) ∷ []
 every_type = refl
 
@@ -49,7 +49,7 @@ every_type = refl
 abbrev no_types : List ℕ
 no_types = 0x18 ∷ 0x0a ∷ 0xc0 ∷ 0x00 ∷ 0x00 ∷ 0x06 ∷ 0x20 ∷ 0x0f ∷ 0x05 ∷ 0x00 ∷ 0x00 ∷ 0x00 ∷ 0x02 ∷ []
 
-no_content : (run after_format (Request 1 no_types ∷ [])).outputs
+no_content : (run 64 after_format (Request 1 no_types ∷ [])).outputs
     ≡ reply (report 0 0x13 1 4 1 (identifier ++ 0x06 ∷ 0x00 ∷ 0x01 ∷ [])) ∷ reply (report 1 0x13 1 8 1 (identifier ++ 0x17 ∷ 0x00 ∷ 0x01 ∷ [])) ∷ []
 no_content = refl
 
@@ -65,9 +65,9 @@ abbrev plain : List ℕ
 plain = 0x00 ∷ 0x64 ∷ 0xc0 ∷ 0x00 ∷ 0x00 ∷ 0x00 ∷ 0xaa ∷ []
 
 abbrev forwarded : Table
-forwarded = (run after_format (Request 1 forward ∷ Arrival 16 packet ∷ Arrival 17 plain ∷ [])).table
+forwarded = (run 64 after_format (Request 1 forward ∷ Arrival 16 packet ∷ Arrival 17 plain ∷ [])).table
 
-one_goes_out : (run after_format (Request 1 forward ∷ Arrival 16 packet ∷ Arrival 17 plain ∷ [])).outputs ≡ record { command = 2; kind = Forwarded; channel = 0; packet = packet } ∷ []
+one_goes_out : (run 64 after_format (Request 1 forward ∷ Arrival 16 packet ∷ Arrival 17 plain ∷ [])).outputs ≡ record { command = 2; kind = Forwarded; channel = 0; packet = packet } ∷ []
 one_goes_out = refl
 
 both_are_stored : map (λ (store : Store). map (λ (stored : Stored). stored.octets) store.packets) forwarded.stores ≡ (packet ∷ plain ∷ []) ∷ []
@@ -80,7 +80,7 @@ one_pattern = refl
 abbrev unforward : List ℕ
 unforward = 0x18 ∷ 0x0a ∷ 0xc0 ∷ 0x00 ∷ 0x00 ∷ 0x0a ∷ 0x20 ∷ 0x0e ∷ 0x02 ∷ 0x00 ∷ 0x00 ∷ 0x01 ∷ 0x02 ∷ 0x00 ∷ 0x64 ∷ 0x03 ∷ 0x00 ∷ []
 
-absent : (run after_format (Request 3 unforward ∷ [])).outputs
+absent : (run 64 after_format (Request 3 unforward ∷ [])).outputs
     ≡ reply (report 0 0x13 1 4 3 (identifier ++ 0x15 ∷ 0x00 ∷ 0x01 ∷ [])) ∷ reply (report 1 0x13 1 8 3 (identifier ++ 0x17 ∷ 0x00 ∷ 0x01 ∷ [])) ∷ []
 absent = refl
 
@@ -93,9 +93,9 @@ row = 0x00 ∷ 0x01 ∷ 0x00 ∷ 0x00 ∷ 0x00 ∷ 0x02 ∷ 0x00 ∷ 0x00 ∷ 0x
     ∷ 0x00 ∷ 0x00 ∷ 0x00 ∷ 0x00 ∷ 0x00 ∷ 0x10 ∷ 0x00 ∷ 0x00 ∷ 0x00 ∷ 0x00 ∷ 0x00 ∷ 0x11 ∷ 0x00 ∷ 0x00 ∷ 0x00 ∷ 0x01 ∷ []
 
 abbrev two_packets : Table
-two_packets = (run after_format (Arrival 16 packet ∷ Arrival 17 plain ∷ Grant 18 ∷ [])).table
+two_packets = (run 64 after_format (Arrival 16 packet ∷ Arrival 17 plain ∷ Grant 18 ∷ [])).table
 
-with_repeats : map (λ (output : Output). output.packet) (run two_packets (Request 4 summary ∷ [])).outputs
+with_repeats : map (λ (output : Output). output.packet) (run 64 two_packets (Request 4 summary ∷ [])).outputs
     ≡ report 0 0x13 1 4 4 (identifier ++ 0x06 ∷ 0x00 ∷ 0x02 ∷ []) ∷ report 1 0x41 15 0x0d 4 (0x02 ∷ row ++ row) ∷ report 2 0x13 1 8 4 (identifier ++ 0x17 ∷ 0x00 ∷ 0x01 ∷ []) ∷ []
 with_repeats = refl
 
@@ -103,6 +103,6 @@ with_repeats = refl
 abbrev unknown_summary : List ℕ
 unknown_summary = 0x18 ∷ 0x0a ∷ 0xc0 ∷ 0x00 ∷ 0x00 ∷ 0x07 ∷ 0x20 ∷ 0x0f ∷ 0x0c ∷ 0x00 ∷ 0x00 ∷ 0x01 ∷ 0x00 ∷ 0x02 ∷ []
 
-no_summary : map (λ (output : Output). output.packet) (run two_packets (Request 4 unknown_summary ∷ [])).outputs
+no_summary : map (λ (output : Output). output.packet) (run 64 two_packets (Request 4 unknown_summary ∷ [])).outputs
     ≡ report 0 0x13 1 4 4 (identifier ++ 0x06 ∷ 0x00 ∷ 0x01 ∷ []) ∷ report 1 0x13 1 8 4 (identifier ++ 0x17 ∷ 0x00 ∷ 0x01 ∷ []) ∷ []
 no_summary = refl

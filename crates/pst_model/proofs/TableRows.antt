@@ -41,32 +41,32 @@ abbrev sent : (command : ℕ) → List ℕ → Output
 sent command octets = record { command = command; kind = Retrieved; channel = 1; packet = octets }
 
 -- a packet goes out once
-a_grant_sends : (run after_format (Arrival 16 (packet 1) ∷ Grant 17 ∷ [])).outputs ≡ sent 2 (packet 1) ∷ []
+a_grant_sends : (run 64 after_format (Arrival 16 (packet 1) ∷ Grant 17 ∷ [])).outputs ≡ sent 2 (packet 1) ∷ []
 a_grant_sends = refl
 
-a_second_grant_sends_nothing : run after_format (Arrival 16 (packet 1) ∷ Grant 17 ∷ Grant 18 ∷ []) ≡ record { table = boot_table 16 (stored_at 16 (packet 1) ∷ []) 1; outputs = sent 2 (packet 1) ∷ [] }
+a_second_grant_sends_nothing : run 64 after_format (Arrival 16 (packet 1) ∷ Grant 17 ∷ Grant 18 ∷ []) ≡ record { table = boot_table 16 (stored_at 16 (packet 1) ∷ []) 1; outputs = sent 2 (packet 1) ∷ [] }
 a_second_grant_sends_nothing = refl
 
 -- three times 17 pages and 16 more are over 64, so the first packet leaves
 abbrev counts : Table → List (ℕ × ℕ)
 counts table = map (λ store. (length store.packets, content_of store)) table.stores
 
-the_oldest_leaves : counts (run after_format (Arrival 1 largest ∷ Arrival 2 largest ∷ Arrival 3 largest ∷ Arrival 4 large ∷ [])).table ≡ (3, 50) ∷ []
+the_oldest_leaves : counts (run 64 after_format (Arrival 1 largest ∷ Arrival 2 largest ∷ Arrival 3 largest ∷ Arrival 4 large ∷ [])).table ≡ (3, 50) ∷ []
 the_oldest_leaves = refl
 
 -- an idle packet moves the storage time alone
-an_idle_packet_is_not_stored : run after_format (Arrival 64 idle ∷ []) ≡ record { table = boot_table 64 [] 0; outputs = [] }
+an_idle_packet_is_not_stored : run 64 after_format (Arrival 64 idle ∷ []) ≡ record { table = boot_table 64 [] 0; outputs = [] }
 an_idle_packet_is_not_stored = refl
 
 -- 65 packets of a page each, and 65 grants: the first packet left
 abbrev many : List Command
 many = map (λ n. Arrival n (packet n)) (range_with_len 1 65) ++ map (λ n. Grant (65 + n)) (range_with_len 1 65)
 
-sixty_four_go_out : (run after_format many).outputs ≡ map (λ n. sent (64 + n) (packet n)) (range_with_len 2 64)
+sixty_four_go_out : (run 64 after_format many).outputs ≡ map (λ n. sent (64 + n) (packet n)) (range_with_len 2 64)
 sixty_four_go_out = refl
 
 -- storage times never fall
-times_do_not_fall : (run after_format (Arrival 48 (packet 1) ∷ Arrival 32 (packet 2) ∷ [])).table ≡ boot_table 48 (stored_at 48 (packet 1) ∷ stored_at 48 (packet 2) ∷ []) 0
+times_do_not_fall : (run 64 after_format (Arrival 48 (packet 1) ∷ Arrival 32 (packet 2) ∷ [])).table ≡ boot_table 48 (stored_at 48 (packet 1) ∷ stored_at 48 (packet 2) ∷ []) 0
 times_do_not_fall = refl
 
 -- a refusal says the pages that are needed and those free
@@ -83,7 +83,7 @@ a_small_store_refuses = refl
 abbrev ranged : Table
 ranged = record (boot_table 2 [] 0) { stores = record (stored_store (stored_at 1 (packet 1) ∷ stored_at 2 (packet 2) ∷ []) 1) { range = Some (0, 2) } ∷ [] }
 
-a_range_goes_first : run ranged (Grant 3 ∷ Grant 4 ∷ []) ≡ record { table = boot_table 2 (stored_at 1 (packet 1) ∷ stored_at 2 (packet 2) ∷ []) 1; outputs = sent 1 (packet 1) ∷ sent 2 (packet 2) ∷ [] }
+a_range_goes_first : run 64 ranged (Grant 3 ∷ Grant 4 ∷ []) ≡ record { table = boot_table 2 (stored_at 1 (packet 1) ∷ stored_at 2 (packet 2) ∷ []) 1; outputs = sent 1 (packet 1) ∷ sent 2 (packet 2) ∷ [] }
 a_range_goes_first = refl
 
 -- where packets leave, the positions move with those that stay

@@ -13,10 +13,11 @@ use Rattle.pst_model.specs.declared.verdicts.Verdict.{Verdict}
 use Rattle.pst_model.specs.declared.verdicts.Verdict.TheVariants.{Accepted, Refused, Started, StartFailed, Completed, CompletionFailed}
 use Rattle.pst_model.specs.Contents.{content_report}
 use Rattle.pst_model.specs.Instructions.{instruct}
-use Rattle.pst_model.specs.Reports.{Report, count_behind, report_packet, verdict_report}
 use Rattle.pst_model.specs.Items.{kind_asked}
+use Rattle.pst_model.specs.Replies.{replied}
+use Rattle.pst_model.specs.Reports.{Report, verdict_report}
 use Rattle.pst_model.specs.Requests.{items_in, request_fault_of}
-use Rattle.pst_model.specs.Rules.{Output, Reply, Step}
+use Rattle.pst_model.specs.Rules.{Step}
 use Rattle.pst_model.specs.Table.{Table}
 
 -- The judgements before a request's instructions, each with its code and its detail.
@@ -84,13 +85,13 @@ abbrev pub carried_by : (number : ℕ) → Table → Result Table ℕ → (Table
 carried_by number table (Ok next) behind = behind next
 carried_by number table (Err code) behind = failed_first (number, code) (behind table)
 
-abbrev pub carry_out_from : (number : ℕ) → List Instruction → Table → Carried
-carry_out_from number [] table = record { table = table; failures = [] }
-carry_out_from number (item ∷ items) table =
-    carried_by number table (instruct item table) (carry_out_from (number + 1) items)
+abbrev pub carry_out_from : (blocks number : ℕ) → List Instruction → Table → Carried
+carry_out_from blocks number [] table = record { table = table; failures = [] }
+carry_out_from blocks number (item ∷ items) table =
+    carried_by number table (instruct blocks item table) (carry_out_from blocks (number + 1) items)
 
-abbrev pub carry_out : List Instruction → Table → Carried
-carry_out items table = carry_out_from 1 items table
+abbrev pub carry_out : (blocks : ℕ) → List Instruction → Table → Carried
+carry_out blocks items table = carry_out_from blocks 1 items table
 
 -- the acknowledgement flags: of acceptance, of the start, of completion
 abbrev pub asks_acceptance : (acks : ℕ) → Bool
@@ -125,28 +126,6 @@ abbrev pub verdicts_before : (acks : ℕ) → List (ℕ × ℕ) → List Verdict
 verdicts_before acks failures =
     if_asked (asks_acceptance acks) Accepted ++ map failed_start failures ++ started acks failures
 
--- a report as an output, with this sequence count
-abbrev pub reply : (number moment count : ℕ) → Report → Output
-reply number moment count report = record {
-  command = number;
-  kind = Reply;
-  channel = 0;
-  packet = report_packet count moment report;
-}
-
--- Reports as outputs: each has the count of those before it, modulo 16,384.
-abbrev pub replies_from : (number moment count : ℕ) → List Report → List Output
-replies_from number moment count [] = []
-replies_from number moment count (report ∷ reports) =
-    reply number moment count report ∷ replies_from number moment (count_behind count 1) reports
-
--- the table behind reports, which went out
-abbrev pub replied : (number moment : ℕ) → Table → List Report → Step
-replied number moment table reports = record {
-  table = record table { reports = count_behind table.reports (length reports) };
-  outputs = replies_from number moment table.reports reports;
-}
-
 abbrev pub on_request : (packet : List ℕ) → List Verdict → List Report
 on_request packet verdicts = map (verdict_report (identifier_of packet)) verdicts
 
@@ -163,15 +142,18 @@ abbrev pub answer_carried : (number moment : ℕ) → (packet : List ℕ) → Li
 answer_carried number moment packet items carried =
     replied number moment carried.table (reports_on packet items carried)
 
-abbrev pub answer_by : (number moment : ℕ) → (packet : List ℕ) → Table → Option Verdict → Step
-answer_by number moment packet table (Some verdict) =
+abbrev pub answer_by : (blocks number moment : ℕ) → (packet : List ℕ) → Table → Option Verdict
+    → Step
+answer_by blocks number moment packet table (Some verdict) =
     replied number moment table (on_request packet (verdict ∷ []))
-answer_by number moment packet table None =
+answer_by blocks number moment packet table None =
     answer_carried number moment packet
     (items_in (service_of packet) (subtype_of packet) (data_in packet))
-    (carry_out (items_in (service_of packet) (subtype_of packet) (data_in packet)) table)
+    (carry_out blocks (items_in (service_of packet) (subtype_of packet) (data_in packet)) table)
 
--- A request: where a judgement refuses it, [1,2] alone answers it. Else its instructions are taken
--- in order, each of which takes effect or fails, and a failed one changes nothing.
-abbrev pub answer : (number moment : ℕ) → (packet : List ℕ) → Table → Step
-answer number moment packet table = answer_by number moment packet table (refusal_of packet)
+-- A request on a device of so many blocks: where a judgement refuses it, [1,2] alone answers it.
+-- Else its instructions are taken in order, each of which takes effect or fails, and a failed one
+-- changes nothing.
+abbrev pub answer : (blocks number moment : ℕ) → (packet : List ℕ) → Table → Step
+answer blocks number moment packet table =
+    answer_by blocks number moment packet table (refusal_of packet)

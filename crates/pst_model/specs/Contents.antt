@@ -7,7 +7,7 @@ use Rattle.control_defs.specs.declared.instructions.Instruction.TheVariants.{For
 use Rattle.pst_model.specs.declared.rows.ConfigRow.{ConfigRow}
 use Rattle.pst_model.specs.declared.rows.StatusRow.{StatusRow}
 use Rattle.pst_model.specs.declared.rows.SummaryRow.{SummaryRow}
-use Rattle.pst_model.specs.Instructions.{is_named}
+use Rattle.pst_model.specs.Changes.{is_named}
 use Rattle.pst_model.specs.Reports.{Report, configuration_report, forward_report, status_report, summary_report, types_report}
 use Rattle.pst_model.specs.Table.{Store, Stored, Table, content_of}
 

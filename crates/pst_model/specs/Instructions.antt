@@ -1,46 +1,16 @@
 -- What one instruction does to the table (ECSS-E-ST-70-41C, 6.14.3 and 6.15.3).
-use Rattle.std.specs.Prelude.{ℕ, ◌==◌, nat_lt, Bool, true, false, is_some, if◌then◌else◌, find, List, length, Option, Some, None, Result, Ok, Err}
+use Rattle.std.specs.Prelude.{ℕ, nat_lt, Bool, true, false, if◌then◌else◌, List, length, Result, Ok, Err}
 use Rattle.control_defs.specs.declared.instructions.Instruction.{Instruction}
-use Rattle.control_defs.specs.declared.instructions.Instruction.TheVariants.{ForwardAdd, ForwardDelete, ForwardReport, Enable, Disable, AddTypes, DeleteTypes, ReportTypes, Summary, Resume, Suspend, Status, Configuration}
+use Rattle.control_defs.specs.declared.instructions.Instruction.TheVariants.{ForwardAdd, ForwardDelete, ForwardReport, Enable, Disable, AddTypes, DeleteTypes, ReportTypes, StartRange, DeleteUpTo, Summary, OpenFrom, Resume, Suspend, Abort, Status, Create, Remove, Configuration, Copy, Resize, ToCircular, ToBounded, Channel}
+use Rattle.control_defs.specs.declared.instructions.StoreKind.TheVariants.{Circular, Bounded}
 use Rattle.control_defs.specs.declared.patterns.Pattern.{Pattern}
 use Rattle.control_defs.specs.Lists.{is_standing, with_pattern, without_pattern}
-use Rattle.pst_model.specs.Rules.{at_first}
+use Rattle.pst_model.specs.Changes.{asked_about, change_store}
+use Rattle.pst_model.specs.Copies.{copy}
+use Rattle.pst_model.specs.Failures.{already_so, no_such_pattern, too_many_patterns}
+use Rattle.pst_model.specs.Ranges.{abort_range, delete_up_to, open_from, start_range}
+use Rattle.pst_model.specs.Stores.{create, new_store, remove, resize, set_channel, set_kind}
 use Rattle.pst_model.specs.Table.{Store, Table}
-
--- the codes of failures
-abbrev pub unknown_store : ℕ
-unknown_store = 6
-
-abbrev pub too_many_patterns : ℕ
-too_many_patterns = 20
-
-abbrev pub no_such_pattern : ℕ
-no_such_pattern = 21
-
-abbrev pub already_so : ℕ
-already_so = 22
-
-abbrev pub unknown_subtype : ℕ
-unknown_subtype = 4
-
-abbrev pub is_named : (identifier : ℕ) → Store → Bool
-is_named identifier store = store.identifier == identifier
-
--- the table with the store of this identifier as it was made
-abbrev pub with_changed : (identifier : ℕ) → Table → Result Store ℕ → Result Table ℕ
-with_changed identifier table (Ok store) =
-    Ok (record table { stores = at_first (is_named identifier) (λ _. store) table.stores })
-with_changed identifier table (Err code) = Err code
-
-abbrev pub change_found : (identifier : ℕ) → Table → (Store → Result Store ℕ) → Option Store
-    → Result Table ℕ
-change_found identifier table change (Some store) = with_changed identifier table (change store)
-change_found identifier table change None = Err unknown_store
-
--- a change of the store of this identifier, where it stands
-abbrev pub change_store : (identifier : ℕ) → Table → (Store → Result Store ℕ) → Result Table ℕ
-change_store identifier table change =
-    change_found identifier table change (find (is_named identifier) table.stores)
 
 -- a flag of a store is set, where it is not so already
 abbrev pub set_storage : Bool → Store → Result Store ℕ
@@ -75,27 +45,36 @@ abbrev pub with_types : Store → Result (List Pattern) ℕ → Result Store ℕ
 with_types store (Ok patterns) = Ok (record store { patterns = patterns })
 with_types store (Err code) = Err code
 
--- a store that is asked about, which stays as it is
-abbrev pub asked_about : (identifier : ℕ) → Table → Result Table ℕ
-asked_about identifier table =
-    if is_some (find (is_named identifier) table.stores) then Ok table else Err unknown_store
-
--- The table after an instruction, or the code with which it fails. Of the kinds that are not
--- carried out yet no request comes this far.
-abbrev pub instruct : Instruction → Table → Result Table ℕ
-instruct (ForwardAdd pattern) table = with_forward table (add_pattern pattern table.forward)
-instruct (ForwardDelete pattern) table = with_forward table (delete_pattern pattern table.forward)
-instruct ForwardReport table = Ok table
-instruct (Enable store) table = change_store store table (set_storage true)
-instruct (Disable store) table = change_store store table (set_storage false)
-instruct (AddTypes store pattern) table =
+-- The table after an instruction on a device of so many blocks, or the code with which it fails: of
+-- the checks of its kind, in their order, that of the first one that fails.
+abbrev pub instruct : (blocks : ℕ) → Instruction → Table → Result Table ℕ
+instruct blocks (ForwardAdd pattern) table =
+    with_forward table (add_pattern pattern table.forward)
+instruct blocks (ForwardDelete pattern) table =
+    with_forward table (delete_pattern pattern table.forward)
+instruct blocks ForwardReport table = Ok table
+instruct blocks (Enable store) table = change_store store table (set_storage true)
+instruct blocks (Disable store) table = change_store store table (set_storage false)
+instruct blocks (AddTypes store pattern) table =
     change_store store table (λ s. with_types s (add_pattern pattern s.patterns))
-instruct (DeleteTypes store pattern) table =
+instruct blocks (DeleteTypes store pattern) table =
     change_store store table (λ s. with_types s (delete_pattern pattern s.patterns))
-instruct (ReportTypes store) table = asked_about store table
-instruct (Summary store) table = asked_about store table
-instruct (Resume store) table = change_store store table (set_open true)
-instruct (Suspend store) table = change_store store table (set_open false)
-instruct Status table = Ok table
-instruct Configuration table = Ok table
-instruct _ table = Err unknown_subtype
+instruct blocks (ReportTypes store) table = asked_about store table
+instruct blocks (StartRange store t1 t2) table = change_store store table (start_range t1 t2)
+instruct blocks (DeleteUpTo store t) table = change_store store table (delete_up_to t)
+instruct blocks (Summary store) table = asked_about store table
+instruct blocks (OpenFrom store t) table = change_store store table (open_from t)
+instruct blocks (Resume store) table = change_store store table (set_open true)
+instruct blocks (Suspend store) table = change_store store table (set_open false)
+instruct blocks (Abort store) table = change_store store table abort_range
+instruct blocks Status table = Ok table
+instruct blocks (Create store kind size channel) table =
+    create blocks (new_store store kind size channel) table
+instruct blocks (Remove store) table = remove store table
+instruct blocks Configuration table = Ok table
+instruct blocks (Copy from to t1 t2) table = copy from to t1 t2 table
+instruct blocks (Resize store size) table =
+    change_store store table (resize blocks size table.stores)
+instruct blocks (ToCircular store) table = change_store store table (set_kind Circular)
+instruct blocks (ToBounded store) table = change_store store table (set_kind Bounded)
+instruct blocks (Channel store channel) table = change_store store table (set_channel channel)

@@ -1,7 +1,11 @@
 pub mod Acknowledged
 pub mod Answers
+pub mod Arrivals
+pub mod Changes
 pub mod Command
 pub mod Contents
+pub mod Copies
+pub mod Failures
 pub mod Forms
 pub mod Instructions
 pub mod Items
@@ -9,10 +13,13 @@ pub mod Laws
 pub mod Layouts
 pub mod Least
 pub mod Output
+pub mod Ranges
 pub mod ReadBack
+pub mod Replies
 pub mod Reports
 pub mod Requests
 pub mod Rules
 pub mod Run
+pub mod Stores
 pub mod Table
 pub mod Text

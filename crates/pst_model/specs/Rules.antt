@@ -1,11 +1,9 @@
--- What arrivals and grants do to the table (ECSS-E-ST-70-41C, 6.14.3 and 6.15.3).
-use Rattle.std.specs.Prelude.{ℕ, ◌+◌, ◌-◌, ◌==◌, ◌&&◌, ◌||◌, nat_le, nat_lt, max, Bool, true, false, is_some, if◌then◌else◌, List, [], ◌∷◌, ◌++◌, length, map, find, get_or, Option, Some, None}
+-- What goes out, what a put does to a store, and what a grant does to the table (ECSS-E-ST-70-41C,
+-- 6.15.3).
+use Rattle.std.specs.Prelude.{ℕ, ◌+◌, ◌-◌, ◌&&◌, ◌||◌, nat_le, nat_lt, Bool, true, false, is_some, if◌then◌else◌, List, [], ◌∷◌, ◌++◌, length, find, get_or, Option, Some, None}
 use Rattle.space_packet.specs.Charge.{charge_of}
-use Rattle.space_packet.specs.Packet.{apid_of}
 use Rattle.control_defs.specs.declared.instructions.StoreKind.{StoreKind}
 use Rattle.control_defs.specs.declared.instructions.StoreKind.TheVariants.{Circular, Bounded}
-use Rattle.control_defs.specs.Patterns.{any_covers}
-use Rattle.pus_header.specs.Keys.{key_of}
 use Rattle.pst_model.specs.Least.{least}
 use Rattle.pst_model.specs.Table.{Store, Stored, Table, content_of, drop_front}
 
@@ -68,29 +66,6 @@ put store stored =
 abbrev pub behind_put : Store → Put → Store
 behind_put store (Taken next) = next
 behind_put store (Refused need free) = record store { told = true }
-
--- a store to which an arriving packet is offered
-abbrev pub offered : Stored → Store → Store
-offered stored store =
-    if store.storage && any_covers store.patterns (key_of stored.octets)
-    then behind_put store (put store stored) else store
-
--- An arrival: the storage time rises to the moment, and a packet that is not idle is forwarded
--- where a forward pattern covers its key, and offered to each store.
-abbrev pub arrive : (number moment : ℕ) → List ℕ → Table → Step
-arrive number moment packet table =
-    let now = max table.now moment in
-    if apid_of packet == 2047 then record { table = record table { now = now }; outputs = [] }
-    else record {
-      table = record table {
-        now = now;
-        stores = map (offered (record { time = now; octets = packet })) table.stores;
-      };
-      outputs =
-          if any_covers table.forward (key_of packet)
-          then record { command = number; kind = Forwarded; channel = 0; packet = packet } ∷ []
-          else [];
-    }
 
 -- the packet at a position of a store
 abbrev pub packet_at : Store → ℕ → List ℕ

@@ -15,13 +15,13 @@ ghost use Rattle.pst_model.specs.Table.{Store, Table};
 /// A run of some commands and then others is the run of the first ones, and behind it that of the
 /// others, whose numbers go on.
 pub fn runs_in_turn()
-    ensures table { (number : ℕ) (table : Table) (a b : List Command)
-        → (run_from number table (a ++ b)).table
-        ≡ (run_from (number + length a) (run_from number table a).table b).table }
-    ensures outputs { (number : ℕ) (table : Table) (a b : List Command)
-        → (run_from number table (a ++ b)).outputs
-        ≡ (run_from number table a).outputs
-        ++ (run_from (number + length a) (run_from number table a).table b).outputs }
+    ensures table { (blocks number : ℕ) (table : Table) (a b : List Command)
+        → (run_from blocks number table (a ++ b)).table
+        ≡ (run_from blocks (number + length a) (run_from blocks number table a).table b).table }
+    ensures outputs { (blocks number : ℕ) (table : Table) (a b : List Command)
+        → (run_from blocks number table (a ++ b)).outputs
+        ≡ (run_from blocks number table a).outputs
+        ++ (run_from blocks (number + length a) (run_from blocks number table a).table b).outputs }
 {}
 
 /// The fewest packets leave the front of a store behind which there is room for so many pages.
@@ -38,21 +38,21 @@ pub fn circular_stores_refuse_only_larger()
 
 /// No command passes more packets of a store than it has.
 pub fn behind_stays_within()
-    ensures { (number : ℕ) (command : Command) (table : Table)
-        → All IsWithin table.stores → All IsWithin (step number command table).table.stores }
+    ensures { (blocks number : ℕ) (command : Command) (table : Table)
+        → All IsWithin table.stores → All IsWithin (step blocks number command table).table.stores }
 {}
 
 /// An instruction that fails leaves the table to those behind it as it was.
 pub fn failed_instructions_change_nothing()
-    ensures { (number code : ℕ) (item : Instruction) (items : List Instruction) (table : Table)
-        → instruct item table ≡ Err code
-        → carry_out_from number (item ∷ items) table
-        ≡ failed_first (number, code) (carry_out_from (number + 1) items table) }
+    ensures { (blocks number code : ℕ) (item : Instruction) (items : List Instruction) (table : Table)
+        → instruct blocks item table ≡ Err code
+        → carry_out_from blocks number (item ∷ items) table
+        ≡ failed_first (number, code) (carry_out_from blocks (number + 1) items table) }
 {}
 
 /// Each report raises the count of reports by one, modulo 16,384.
 pub fn reports_are_counted()
-    ensures { (number : ℕ) (command : Command) (table : Table) → table.reports < 16384
-        → (step number command table).table.reports
-        ≡ count_behind table.reports (replies_in (step number command table).outputs) }
+    ensures { (blocks number : ℕ) (command : Command) (table : Table) → table.reports < 16384
+        → (step blocks number command table).table.reports
+        ≡ count_behind table.reports (replies_in (step blocks number command table).outputs) }
 {}

@@ -5,14 +5,17 @@ use Rattle.std.specs.Prelude.{IsTrue, Option, length, take, ◌-◌}
 use Rattle.std.specs.Io.KnownBytes.{Appends}
 use Rattle.board.specs.declared.memory.MemBoard.{MemBoard}
 use Rattle.board.specs.Flash.{blank}
-use Rattle.board.specs.Memory.{IsNewBoard, memory_means, moment_of, sent_at}
+use Rattle.board.specs.Device.{Device}
+use Rattle.board.specs.Memory.{IsNewBoard, device_of, memory_means, moment_of, sent_at}
 use Rattle.board.specs.Moments.{IsPrefixOf, SendsNothing, SendsOnly}
+use Rattle.pst_model.specs.Command.{Command}
 use Rattle.pst_model.specs.Rules.{Output}
 use Rattle.pst_model.specs.Run.{lines_of}
+use Rattle.pst_model.specs.Text.{commands_of}
 use Rattle.station.specs.declared.ending.Ending.{Ending}
 use Rattle.station.specs.declared.ending.Ending.TheVariants.{Done, BadWords, BadLine, FlashFault, LinkFault, SourceFault, NoMemory}
 use Rattle.station.specs.Promises.{LinkBreaks, LinkSends}
-use Rattle.station.specs.Session.{EndsReading, EndsSending, MayBeSent, lines_for, read_of, taken_of}
+use Rattle.station.specs.Session.{EndsReading, EndsSending, MayBeSent, lines_for, outputs_for, read_of, taken_of, text_limit}
 use Rattle.pusstore.specs.Printing.{EndsFormat, EndsPrinting, IsOfDevice}
 
 -- a writer that gained nothing
@@ -30,12 +33,12 @@ device_or SourceFault = inr (λ of. ⊎_elim (λ is. cc) (λ is. cc) of)
 device_or NoMemory = inr (λ of. ⊎_elim (λ is. cc) (λ is. cc) of)
 
 -- a program that found no memory for its device
-pub prints_none : (text : List ℕ) (known : Option (List ℕ)) → EndsPrinting text known known NoMemory
-prints_none text known = record {
+pub prints_none : (blocks : ℕ) (text : List ℕ) (known : Option (List ℕ)) → EndsPrinting blocks text known known NoMemory
+prints_none blocks text known = record {
   left = text;
   taken = let none : 0 ≡ length text - length text = omega arith in ap (λ (n : ℕ). take n text ++ text) none;
   front = [];
-  prefix = (lines_for (read_of text text), refl);
+  prefix = (lines_for blocks (read_of text text), refl);
   printed = gains_nothing known;
 }
 
@@ -46,31 +49,41 @@ module _ (text left : List ℕ) (before after : Option (List ℕ)) (blocks : ℕ
       → sent_at board' (moment_of board') ≡ lines_of outputs
   sent_lines outputs lines = lines.gained refl ∙ ap (λ (old : List ℕ). old ++ lines_of outputs) made.sent
 
-  sent_front : SendsOnly memory_means board board' (MayBeSent tells (read_of text left) (sent_at board (moment_of board)))
-      → IsPrefixOf (sent_at board' (moment_of board')) (lines_for (read_of text left))
+  -- its blocks
+  here : (device_of board).blocks ≡ blocks
+  here = ap (λ (device : Device). device.blocks) made.device
+
+  sent_front : SendsOnly memory_means board board' (MayBeSent (device_of board).blocks tells (read_of text left) (sent_at board (moment_of board)))
+      → IsPrefixOf (sent_at board' (moment_of board')) (lines_for blocks (read_of text left))
   sent_front moments =
       let front = (moments.each (moment_of board') moments.later (omega arith)).lines told in
-      subst (λ (octets : List ℕ). IsPrefixOf octets (lines_for (read_of text left)))
-      (sym (front.gained ∙ ap (λ (old : List ℕ). old ++ front.front) made.sent)) front.prefix
+      subst (λ (octets : List ℕ). IsPrefixOf octets (lines_for blocks (read_of text left)))
+      (sym (front.gained ∙ ap (λ (old : List ℕ). old ++ front.front) made.sent)) (subst (λ (n : ℕ). IsPrefixOf front.front (lines_for n (read_of text left))) here front.prefix)
 
   sent_nothing : board' ≡ board → sent_at board' (moment_of board') ≡ []
   sent_nothing same = ap (λ (b : MemBoard). sent_at b (moment_of b)) same ∙ made.sent
 
+  -- all lines for commands, whatever is known of the blocks
+  sent_for : (commands : List Command) → LinkSends memory_means board board' (outputs_for (device_of board).blocks commands)
+      → Appends before after (sent_at board' (moment_of board')) → Appends before after (lines_for blocks commands)
+  sent_for commands lines = subst (Appends before after)
+      (sent_lines (outputs_for (device_of board).blocks commands) lines ∙ ap (λ (n : ℕ). lines_for n commands) here)
+
   -- a program that printed all that its device was sent, and ends as its session did
-  prints_as : (ending : Ending) → text ≡ taken_of text left ++ left → EndsReading text left ending
-      → EndsSending text left (LinkSends memory_means board board') (LinkBreaks memory_means board board') ending
-      → SendsOnly memory_means board board' (MayBeSent tells (read_of text left) (sent_at board (moment_of board)))
+  prints_as : (ending : Ending) → text ≡ taken_of text left ++ left → EndsReading (device_of board).blocks text left ending
+      → EndsSending (device_of board).blocks text left (LinkSends memory_means board board') (LinkBreaks memory_means board board') ending
+      → SendsOnly memory_means board board' (MayBeSent (device_of board).blocks tells (read_of text left) (sent_at board (moment_of board)))
       → (ending ≡ BadWords → board' ≡ board)
-      → Appends before after (sent_at board' (moment_of board')) → EndsPrinting text before after ending
+      → Appends before after (sent_at board' (moment_of board')) → EndsPrinting blocks text before after ending
   prints_as Done taken reading sending moments unchanged printed =
-      (reading.0, subst (λ (octets : List ℕ). Appends before after octets) (sent_lines _ sending) printed)
+      (reading.0, sent_for (commands_of text_limit text) sending printed)
   prints_as (BadLine line why) taken reading sending moments unchanged printed =
-      (reading, subst (λ (octets : List ℕ). Appends before after octets) (sent_lines _ sending) printed)
+      (reading, sent_for (commands_of text_limit text) sending printed)
   prints_as SourceFault taken reading sending moments unchanged printed = record {
     left = left;
     taken = taken;
     none_bad = reading;
-    printed = subst (λ (octets : List ℕ). Appends before after octets) (sent_lines _ sending) printed;
+    printed = sent_for (read_of text left) sending printed;
   }
   prints_as FlashFault taken reading sending moments unchanged printed =
       subst (λ (octets : List ℕ). Appends before after octets) (sent_lines _ sending) printed
@@ -89,21 +102,21 @@ module _ (text left : List ℕ) (before after : Option (List ℕ)) (blocks : ℕ
       → (printed ≡ false → result ≡ LinkFault)
       → (printed ≡ true → starved ≡ true → IsOfDevice ending → result ≡ NoMemory)
       → (printed ≡ true → (starved ≡ false) ⊎ (IsOfDevice ending → ⊥) → result ≡ ending)
-      → text ≡ taken_of text left ++ left → EndsReading text left ending
-      → EndsSending text left (LinkSends memory_means board board') (LinkBreaks memory_means board board') ending
-      → SendsOnly memory_means board board' (MayBeSent tells (read_of text left) (sent_at board (moment_of board)))
+      → text ≡ taken_of text left ++ left → EndsReading (device_of board).blocks text left ending
+      → EndsSending (device_of board).blocks text left (LinkSends memory_means board board') (LinkBreaks memory_means board board') ending
+      → SendsOnly memory_means board board' (MayBeSent (device_of board).blocks tells (read_of text left) (sent_at board (moment_of board)))
       → (ending ≡ BadWords → board' ≡ board)
-      → (IsTrue printed → Appends before after (sent_at board' (moment_of board'))) → EndsPrinting text before after result
+      → (IsTrue printed → Appends before after (sent_at board' (moment_of board'))) → EndsPrinting blocks text before after result
   prints ending result starved false unprinted no_memory same taken reading sending moments unchanged gained =
-      subst (λ (e : Ending). EndsPrinting text before after e) (sym (unprinted refl)) tt
+      subst (λ (e : Ending). EndsPrinting blocks text before after e) (sym (unprinted refl)) tt
   prints ending result false true unprinted no_memory same taken reading sending moments unchanged gained =
-      subst (λ (e : Ending). EndsPrinting text before after e) (sym (same refl (inl refl)))
+      subst (λ (e : Ending). EndsPrinting blocks text before after e) (sym (same refl (inl refl)))
       (prints_as ending taken reading sending moments unchanged (gained refl))
   prints ending result true true unprinted no_memory same taken reading sending moments unchanged gained =
       elim (device_or ending) [
-        | inl is ↦ subst (λ (e : Ending). EndsPrinting text before after e) (sym (no_memory refl refl is))
+        | inl is ↦ subst (λ (e : Ending). EndsPrinting blocks text before after e) (sym (no_memory refl refl is))
             (record { left = left; taken = taken; front = sent_at board' (moment_of board'); prefix = sent_front moments; printed = gained refl })
-        | inr not ↦ subst (λ (e : Ending). EndsPrinting text before after e) (sym (same refl (inr not)))
+        | inr not ↦ subst (λ (e : Ending). EndsPrinting blocks text before after e) (sym (same refl (inr not)))
             (prints_as ending taken reading sending moments unchanged (gained refl))
       ]
 

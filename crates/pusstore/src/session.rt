@@ -2,7 +2,7 @@
 // file.
 ghost use Rattle.std.specs.Prelude.{◌≡◌, ◌≢◌, ◌≤◌, ◌↔◌, IsTrue};
 ghost use Rattle.board.specs.Counts.{Rose};
-ghost use Rattle.image_board.specs.FileBoard.{counts_of};
+ghost use Rattle.image_board.specs.FileBoard.{counts_of, device_of};
 ghost use Rattle.image_board.specs.Reading.{octets_left};
 ghost use Rattle.station.specs.Words.{AreFormat, AreKnown, texts_of};
 ghost use Rattle.pusstore.specs.Printing.{EndsFormat, EndsPrinting, EndsTaking};
@@ -28,7 +28,7 @@ pub fn session<R: Reader + Drop, W: Write>(
     ensures words { AreKnown (texts_of words.now) → result ≢ Ending.BadWords }
     ensures format { AreFormat (texts_of words.now)
         → EndsFormat (W.contents output.old) (W.contents output.new) result }
-    ensures prints { ¬ (AreFormat (texts_of words.now)) → IsTrue R.tells → EndsPrinting (octets_left (R.remaining input))
+    ensures prints { ¬ (AreFormat (texts_of words.now)) → IsTrue R.tells → EndsPrinting blocks (octets_left (R.remaining input))
         (W.contents output.old) (W.contents output.new) result }
 {
     let Ok(mut board) = MemBoard::new(alloc, blocks) else {
@@ -50,7 +50,8 @@ pub fn file_session<R: Reader + Drop, W: Write>(
 ) -> Ending
     ensures words { (result ≡ Ending.BadWords) ↔ ¬ (AreKnown (texts_of words.now)) }
     ensures unchanged { result ≡ Ending.BadWords → board.new ≡ board.old }
-    ensures reading { ¬ (AreFormat (texts_of words.now)) → IsTrue R.tells → EndsTaking (octets_left (R.remaining input)) result }
+    ensures reading { ¬ (AreFormat (texts_of words.now)) → IsTrue R.tells → EndsTaking (device_of board.old).blocks
+        (octets_left (R.remaining input)) result }
     ensures flash_cause { result ≡ Ending.FlashFault
         → Rose (counts_of board.old).flash_faults (counts_of board.new).flash_faults }
     ensures link_cause { result ≡ Ending.LinkFault

@@ -72,13 +72,13 @@ module _ {S : Type 0} (input : SourceMeaning S) (reader reader' : Reader) (sourc
 
     -- the command was carried out, the link failed within it, or there was no memory for it
     module _ (command : View) (is : result ≡ Ok (Some command)) (kept : input.faults source' ≡ input.faults source) where
-      pub carried_by : (board' : B) (table' : Table) → ((number : ℕ) → table' ≡ (step number (command_of command) table).table)
-          → ((number : ℕ) → SendsLines means board board' (step number (command_of command) table).outputs)
+      pub carried_by : (board' : B) (table' : Table) → ((number : ℕ) → table' ≡ (step (means.device board).blocks number (command_of command) table).table)
+          → ((number : ℕ) → SendsLines means board board' (step (means.device board).blocks number (command_of command) table).outputs)
           → Carried means input first board' origin source' reader' table'
       carried_by = goes_further means input first board origin source reader table carried source' reader' (command_of command)
           (advances command is) (asks_as (Ok (Some command)) is) kept
 
-      pub link_by : (board' : B) → ((number : ℕ) → BreaksIn means board board' (step number (command_of command) table).outputs)
+      pub link_by : (board' : B) → ((number : ℕ) → BreaksIn means board board' (step (means.device board).blocks number (command_of command) table).outputs)
           → Ended means input first board' origin source' LinkFault
       link_by = ended_link means input first board origin source reader table carried source' reader' (command_of command)
           (advances command is) (asks_as (Ok (Some command)) is) kept

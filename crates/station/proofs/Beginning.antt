@@ -13,11 +13,11 @@ pub taken_none : (text : List ℕ) → text ≡ taken_of text text ++ text
 taken_none text = let none : 0 ≡ length text - length text = omega arith in ap (λ (n : ℕ). take n text ++ text) none
 
 -- nothing was sent yet
-pub may_be_none : (told : Bool) (read : List Command) (before : List ℕ) → MayBeSent told read before before
-may_be_none told read before = record {
+pub may_be_none : (blocks : ℕ) (told : Bool) (read : List Command) (before : List ℕ) → MayBeSent blocks told read before before
+may_be_none blocks told read before = record {
   gained = [];
   behind = sym (append-nil before);
-  lines = λ told. gains_none before (lines_for read);
+  lines = λ told. gains_none before (lines_for blocks read);
 }
 
 module _ {B S : Type 0} (means : BoardMeaning B) (input : SourceMeaning S) (board : B) (source : S)
@@ -43,7 +43,7 @@ module _ {B S : Type 0} (means : BoardMeaning B) (input : SourceMeaning S) (boar
     taken = λ told. taken_none (input.left source);
     reading = λ told. ([], Unbegun refl refl);
     sending = λ told. ([], Unbegun refl refl, lines);
-    moments = λ link. started means board _ (may_be_none (input.tells source) _ (means.sent board (means.moment board)));
+    moments = λ link. started means board _ (may_be_none (means.device board).blocks (input.tells source) _ (means.sent board (means.moment board)));
     link_cause = λ is. absurd cc;
     source_cause = λ is. absurd cc;
     link_kept = λ other. refl;

@@ -16,12 +16,12 @@ unfolding told_by
 starved None = inr refl
 starved (Some bad) = inr refl
 
-pub ends_as_told : (text left : List ℕ) (ending : Ending) → EndsReading text left ending → ending ≢ BadWords → ending ≢ FlashFault → ending ≢ LinkFault → ending ≢ SourceFault → EndsAsTold text ending
+pub ends_as_told : (blocks : ℕ) (text left : List ℕ) (ending : Ending) → EndsReading blocks text left ending → ending ≢ BadWords → ending ≢ FlashFault → ending ≢ LinkFault → ending ≢ SourceFault → EndsAsTold text ending
 unfolding told_by
-ends_as_told text left Done reading known unformatted unlinked unsourced = subst (λ (bad : Option (ℕ × LineFault)). told_by bad Done) (sym reading.0) (inl refl)
-ends_as_told text left BadWords reading known unformatted unlinked unsourced = absurd (known refl)
-ends_as_told text left (BadLine line why) reading known unformatted unlinked unsourced = subst (λ (bad : Option (ℕ × LineFault)). told_by bad (BadLine line why)) (sym reading) (inl refl)
-ends_as_told text left FlashFault reading known unformatted unlinked unsourced = absurd (unformatted refl)
-ends_as_told text left LinkFault reading known unformatted unlinked unsourced = absurd (unlinked refl)
-ends_as_told text left SourceFault reading known unformatted unlinked unsourced = absurd (unsourced refl)
-ends_as_told text left NoMemory reading known unformatted unlinked unsourced = starved (first_bad text_limit text)
+ends_as_told blocks text left Done reading known unformatted unlinked unsourced = subst (λ (bad : Option (ℕ × LineFault)). told_by bad Done) (sym reading.0) (inl refl)
+ends_as_told blocks text left BadWords reading known unformatted unlinked unsourced = absurd (known refl)
+ends_as_told blocks text left (BadLine line why) reading known unformatted unlinked unsourced = subst (λ (bad : Option (ℕ × LineFault)). told_by bad (BadLine line why)) (sym reading) (inl refl)
+ends_as_told blocks text left FlashFault reading known unformatted unlinked unsourced = absurd (unformatted refl)
+ends_as_told blocks text left LinkFault reading known unformatted unlinked unsourced = absurd (unlinked refl)
+ends_as_told blocks text left SourceFault reading known unformatted unlinked unsourced = absurd (unsourced refl)
+ends_as_told blocks text left NoMemory reading known unformatted unlinked unsourced = starved (first_bad text_limit text)

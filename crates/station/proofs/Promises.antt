@@ -27,16 +27,16 @@ use Rattle.station.specs.Session.{EndsSending, Keeps, MayBeSent}
 use Rattle.station.proofs.Beginning.{may_be_none}
 
 -- what an ending says of what was sent, in other words
-pub ends_as : {Sent Broken Sent' Broken' : List Output → Type 0} (text left : List ℕ) (ending : Ending)
+pub ends_as : {Sent Broken Sent' Broken' : List Output → Type 0} (blocks : ℕ) (text left : List ℕ) (ending : Ending)
     → ((outputs : List Output) → Sent outputs → Sent' outputs) → ((outputs : List Output) → Broken outputs → Broken' outputs)
-    → EndsSending text left Sent Broken ending → EndsSending text left Sent' Broken' ending
-ends_as text left Done sent broken ends = sent _ ends
-ends_as text left (BadLine line why) sent broken ends = sent _ ends
-ends_as text left SourceFault sent broken ends = sent _ ends
-ends_as text left FlashFault sent broken ends = sent _ ends
-ends_as text left LinkFault sent broken ends = broken _ ends
-ends_as text left NoMemory sent broken ends = (ends.0, ends.1, sent _ ends.2)
-ends_as text left BadWords sent broken ends = tt
+    → EndsSending blocks text left Sent Broken ending → EndsSending blocks text left Sent' Broken' ending
+ends_as blocks text left Done sent broken ends = sent _ ends
+ends_as blocks text left (BadLine line why) sent broken ends = sent _ ends
+ends_as blocks text left SourceFault sent broken ends = sent _ ends
+ends_as blocks text left FlashFault sent broken ends = sent _ ends
+ends_as blocks text left LinkFault sent broken ends = broken _ ends
+ends_as blocks text left NoMemory sent broken ends = (ends.0, ends.1, sent _ ends.2)
+ends_as blocks text left BadWords sent broken ends = tt
 
 -- the calls of a format, and those of a text
 calls_of : {sends : ℕ} {old mid new : Counts} → Works 0 12 5 8 old mid → Sends sends mid new → Calls sends old new
@@ -66,15 +66,15 @@ module _ {B : Type 0} (means : BoardMeaning B) (old mid new : B) (format : Touch
       (moments (links_too format.same told))
       (λ octets gains. subst (λ (b : List ℕ). GainsFront b lines octets) (sent_same told) gains)
 
-  pub may_be_on : (tells : Bool) (read : List Command)
-      → (TellsLink means mid → SendsOnly means mid new (MayBeSent tells read (means.sent mid (means.moment mid))))
-      → TellsLink means old → SendsOnly means old new (MayBeSent tells read (means.sent old (means.moment old)))
-  may_be_on tells read moments told =
+  pub may_be_on : (blocks : ℕ) (tells : Bool) (read : List Command)
+      → (TellsLink means mid → SendsOnly means mid new (MayBeSent blocks tells read (means.sent mid (means.moment mid))))
+      → TellsLink means old → SendsOnly means old new (MayBeSent blocks tells read (means.sent old (means.moment old)))
+  may_be_on blocks tells read moments told =
       let before = means.sent old (means.moment old) in
-      goes_on means old mid new (MayBeSent tells read before) (MayBeSent tells read (means.sent mid (means.moment mid)))
-      (weaker means old mid (MayBeSent tells read before) _ (format.unsent told) (λ octets is. subst (MayBeSent tells read before) (sym is) (may_be_none tells read before)))
+      goes_on means old mid new (MayBeSent blocks tells read before) (MayBeSent blocks tells read (means.sent mid (means.moment mid)))
+      (weaker means old mid (MayBeSent blocks tells read before) _ (format.unsent told) (λ octets is. subst (MayBeSent blocks tells read before) (sym is) (may_be_none blocks tells read before)))
       (moments (links_too format.same told))
-      (λ octets may. subst (λ (b : List ℕ). MayBeSent tells read b octets) (sent_same told) may)
+      (λ octets may. subst (λ (b : List ℕ). MayBeSent blocks tells read b octets) (sent_same told) may)
 
   pub link_sends : (outputs : List Output) → SendsLines means mid new outputs → LinkSends means old new outputs
   link_sends outputs lines = record {

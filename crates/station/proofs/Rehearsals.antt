@@ -7,7 +7,7 @@ use Rattle.board.specs.declared.memory_source.MemSource.{MemSource}
 use Rattle.board.specs.Counts.{Counts, Rose, RoseBy}
 use Rattle.board.specs.Device.{Device}
 use Rattle.board.specs.Flash.{blank}
-use Rattle.board.specs.Memory.{IsNewBoard, counts_of, flash_of, image_at, memory_means, moment_of, sent_at}
+use Rattle.board.specs.Memory.{IsNewBoard, device_of, counts_of, flash_of, image_at, memory_means, moment_of, sent_at}
 use Rattle.board.specs.MemorySource.{IsNewSource, faults_of, left_of, text_means}
 use Rattle.board.specs.Moments.{IsPrefixOf, SendsOnly}
 use Rattle.meta_journal.specs.Directories.{directory_of}
@@ -91,9 +91,9 @@ module _ (text : List ℕ) (ending : Ending) (blocks : ℕ) (board board' : MemB
           (λ before. absurd (sent (held.unsent (ap (λ (device : Device). device.tells_link) made.device) t (omega (arith, made.moment)) before ∙ made.sent)))
           (cases_lt held.start t)
 
-  pub rehearsed : ending ≢ BadWords → left_of source ≡ taken_of (left_of source) (left_of source') ++ left_of source' → EndsReading (left_of source) (left_of source') ending
-      → EndsSending (left_of source) (left_of source') (LinkSends memory_means board board') (LinkBreaks memory_means board board') ending
-      → SendsOnly memory_means board board' (MayBeSent true (read_of (left_of source) (left_of source')) (sent_at board (moment_of board)))
+  pub rehearsed : ending ≢ BadWords → left_of source ≡ taken_of (left_of source) (left_of source') ++ left_of source' → EndsReading (device_of board).blocks (left_of source) (left_of source') ending
+      → EndsSending (device_of board).blocks (left_of source) (left_of source') (LinkSends memory_means board board') (LinkBreaks memory_means board board') ending
+      → SendsOnly memory_means board board' (MayBeSent (device_of board).blocks true (read_of (left_of source) (left_of source')) (sent_at board (moment_of board)))
       → (ending ≢ BadWords → ending ≢ FlashFault → HoldsFormat memory_means board board')
       → ((Rose (counts_of board).flash_faults (counts_of board').flash_faults → ⊥) → (Rose (counts_of board).link_faults (counts_of board').link_faults → ⊥)
       → (Rose (faults_of source) (faults_of source') → ⊥) → EndsAsTold (left_of source) ending)
@@ -103,16 +103,17 @@ module _ (text : List ℕ) (ending : Ending) (blocks : ℕ) (board board' : MemB
     device = ap (λ (device : Device). device.blocks) (keeps.device ∙ made.device);
     known = known;
     taken = subst (λ (whole : List ℕ). whole ≡ taken_of whole (left_of source') ++ left_of source') given.left taken;
-    reading = subst (λ (whole : List ℕ). EndsReading whole (left_of source') ending) given.left reading;
-    sending = subst (λ (whole : List ℕ). EndsSending whole (left_of source') (HasSent board') (λ outputs. ⊤) ending) given.left
-        (ends_as {Broken = LinkBreaks memory_means board board'} (left_of source) (left_of source') ending has_sent (λ outputs breaks. tt) sending);
+    reading = subst (λ (whole : List ℕ). EndsReading blocks whole (left_of source') ending) given.left (subst (λ (n : ℕ). EndsReading n (left_of source) (left_of source') ending) here reading);
+    sending = subst (λ (whole : List ℕ). EndsSending blocks whole (left_of source') (HasSent board') (λ outputs. ⊤) ending) given.left
+        (ends_as {Broken = LinkBreaks memory_means board board'} blocks (left_of source) (left_of source') ending has_sent (λ outputs breaks. tt) (subst (λ (n : ℕ). EndsSending n (left_of source) (left_of source') (LinkSends memory_means board board') (LinkBreaks memory_means board board') ending) here sending));
     moments = λ t to.
         let may = moments.each t (omega (arith, made.moment)) to in
         let front = may.lines refl in
         let is : sent_at board' t ≡ front.front = front.gained ∙ ap (λ (before : List ℕ). before ++ front.front) made.sent in
-        subst (λ (octets : List ℕ). IsPrefixOf octets (lines_for (read_of text (left_of source')))) (sym is)
-        (subst (λ (whole : List ℕ). IsPrefixOf front.front (lines_for (read_of whole (left_of source')))) given.left front.prefix);
-    flash = holds_formatted known holds (λ t to failed. failed_unsent t to (subst (EndsSending (left_of source) (left_of source') (LinkSends memory_means board board') (LinkBreaks memory_means board board')) failed sending)) keeps;
+        subst (λ (octets : List ℕ). IsPrefixOf octets (lines_for blocks (read_of text (left_of source')))) (sym is)
+        (subst (λ (whole : List ℕ). IsPrefixOf front.front (lines_for blocks (read_of whole (left_of source')))) given.left
+        (subst (λ (n : ℕ). IsPrefixOf front.front (lines_for n (read_of (left_of source) (left_of source')))) here front.prefix));
+    flash = holds_formatted known holds (λ t to failed. failed_unsent t to (subst (EndsSending (device_of board).blocks (left_of source) (left_of source') (LinkSends memory_means board board') (LinkBreaks memory_means board board')) failed sending)) keeps;
     takes = omega (arith, keeps.takes_to refl, given.made, ap length given.left);
     complete = λ unfailed linked sourced. subst (λ (whole : List ℕ). EndsAsTold whole ending) given.left
         (complete (unrisen (counts_of board).flash_faults (counts_of board').flash_faults (ap (λ (counts : Counts). counts.flash_faults) made.counts) unfailed)
@@ -120,6 +121,9 @@ module _ (text : List ℕ) (ending : Ending) (blocks : ℕ) (board board' : MemB
         (unrisen (faults_of source) (faults_of source') given.faults sourced));
   }
     where
+      here : (device_of board).blocks ≡ blocks
+      here = ap (λ (device : Device). device.blocks) made.device
+
       -- a front of nothing
       failed_unsent : (t : ℕ) → t ≤ moment_of board' → LinkSends memory_means board board' [] → sent_at board' t ≡ []
       failed_unsent t to sends =

@@ -2,6 +2,7 @@
 use Rattle.std.proofs.Common.{◌≡◌, ◌≢◌, ℕ, Bool, true, ◌+◌, ◌≤◌, List, [], ◌∷◌, ◌++◌, length, drop, Some, None, refl, sym, ◌∙◌, ap, subst, arith, append_assoc}
 use Rattle.std.specs.Prelude.{Contains, IsTrue}
 use Rattle.board.specs.Counts.{Rose, Sends}
+use Rattle.board.specs.Device.{Device}
 use Rattle.board.specs.Meaning.{BoardMeaning, SourceMeaning, TellsFlash}
 use Rattle.board.specs.Moments.{GainsFront, IsPrefixOf}
 use Rattle.board.specs.Reads.{FlashStays}
@@ -40,23 +41,23 @@ taken text done reader left pending left' limit read same =
     }
 
 -- the outputs for the first commands read stand in front, and so do their lines
-outputs_front : (text left : List ℕ) (done : List Command) → Taken text left done
-    → (more : List Output) × (outputs_for done ++ more ≡ outputs_for (read_of text left))
-outputs_front text left done taken =
-    let front = outputs-prefix after_format done taken.others in
-    (front.0, front.1 ∙ ap outputs_for taken.begins)
+outputs_front : (blocks : ℕ) (text left : List ℕ) (done : List Command) → Taken text left done
+    → (more : List Output) × (outputs_for blocks done ++ more ≡ outputs_for blocks (read_of text left))
+outputs_front blocks text left done taken =
+    let front = outputs-prefix blocks after_format done taken.others in
+    (front.0, front.1 ∙ ap (outputs_for blocks) taken.begins)
 
-pub lines_front : (text left : List ℕ) (done : List Command) → Taken text left done → IsPrefixOf (lines_for done) (lines_for (read_of text left))
-lines_front text left done taken =
-    let front = outputs_front text left done taken in
-    (lines_of front.0, sym (lines_of-append (outputs_for done) front.0) ∙ ap lines_of front.1)
+pub lines_front : (blocks : ℕ) (text left : List ℕ) (done : List Command) → Taken text left done → IsPrefixOf (lines_for blocks done) (lines_for blocks (read_of text left))
+lines_front blocks text left done taken =
+    let front = outputs_front blocks text left done taken in
+    (lines_of front.0, sym (lines_of-append (outputs_for blocks done) front.0) ∙ ap lines_of front.1)
 
-may_be_sent : {told : Bool} (before octets : List ℕ) (done read : List Command) → GainsFront before (lines_for done) octets
-    → (IsTrue told → IsPrefixOf (lines_for done) (lines_for read)) → MayBeSent told read before octets
-may_be_sent before octets done read gains front = record {
+may_be_sent : {told : Bool} (blocks : ℕ) (before octets : List ℕ) (done read : List Command) → GainsFront before (lines_for blocks done) octets
+    → (IsTrue told → IsPrefixOf (lines_for blocks done) (lines_for blocks read)) → MayBeSent blocks told read before octets
+may_be_sent blocks before octets done read gains front = record {
   gained = gains.front;
   behind = gains.gained;
-  lines = λ told. record { front = gains.front; prefix = prefix_trans gains.front (lines_for done) (lines_for read) gains.prefix (front told); gained = gains.gained };
+  lines = λ told. record { front = gains.front; prefix = prefix_trans gains.front (lines_for blocks done) (lines_for blocks read) gains.prefix (front told); gained = gains.gained };
 }
 
 -- A reader read one command, of which the source was told or not.
@@ -96,9 +97,16 @@ carried_none means input board source reader table lines start stands = record {
 
 module _ {B S : Type 0} (means : BoardMeaning B) (input : SourceMeaning S)
     (first board : B) (origin source : S) (reader : Reader) (table : Table) (carried : Carried means input first board origin source reader table) where
+  -- the blocks of the device
+  abbrev blocks : ℕ
+  blocks = (means.device first).blocks
+
+  blocks_same : (means.device board).blocks ≡ blocks
+  blocks_same = ap (λ (device : Device). device.blocks) carried.lines.same
+
   -- all outputs so far, where they are those for these commands
-  sent_all : (commands : List Command) → commands ≡ carried.done → SendsLines means first board (outputs_for commands)
-  sent_all commands is = subst (λ (done : List Command). SendsLines means first board (outputs_for done)) (sym is) carried.lines
+  sent_all : (commands : List Command) → commands ≡ carried.done → SendsLines means first board (outputs_for blocks commands)
+  sent_all commands is = subst (λ (done : List Command). SendsLines means first board (outputs_for blocks done)) (sym is) carried.lines
 
   -- how the outside was called since the first
   keeps_on : (board' : B) (source' : S) (lines : ℕ) → means.device board' ≡ means.device first → (TellsFlash means first → FlashStays means first board')
@@ -118,8 +126,8 @@ module _ {B S : Type 0} (means : BoardMeaning B) (input : SourceMeaning S)
   pub ended_quietly : (source' : S) (ending : Ending) (pending : List ℕ)
       → (IsTrue (input.tells source) → pending ++ input.left source' ≡ reader.pending ++ input.left source)
       → Asks input source source' 1 → ending ≢ BadWords → ending ≢ FlashFault
-      → (IsTrue (input.tells origin) → EndsReading (input.left origin) (input.left source') ending)
-      → (IsTrue (input.tells origin) → EndsSending (input.left origin) (input.left source') (SendsLines means first board) (BreaksIn means first board) ending)
+      → (IsTrue (input.tells origin) → EndsReading blocks (input.left origin) (input.left source') ending)
+      → (IsTrue (input.tells origin) → EndsSending blocks (input.left origin) (input.left source') (SendsLines means first board) (BreaksIn means first board) ending)
       → ending ≢ LinkFault → (ending ≡ SourceFault → Rose (input.faults source) (input.faults source'))
       → (ending ≢ SourceFault → input.faults source' ≡ input.faults source)
       → Ended means input first board origin source' ending
@@ -131,13 +139,13 @@ module _ {B S : Type 0} (means : BoardMeaning B) (input : SourceMeaning S)
     sending = sending;
     moments = λ link. weaker means first board _ _
         (carried.lines.moments link)
-        (λ octets gains. may_be_sent (means.sent first (means.moment first)) octets carried.done (read_of (input.left origin) (input.left source')) gains
-        (λ told. lines_front (input.left origin) (input.left source') carried.done (so_far told)));
+        (λ octets gains. may_be_sent blocks (means.sent first (means.moment first)) octets carried.done (read_of (input.left origin) (input.left source')) gains
+        (λ told. lines_front blocks (input.left origin) (input.left source') carried.done (so_far told)));
     link_cause = λ is. absurd (unlinked is);
     source_cause = λ is. rose_since (input.faults origin) (input.faults source) (input.faults source') (omega (arith, carried.source_faults)) (cause is);
     link_kept = λ is. carried.lines.no_fault;
     source_kept = λ is. kept is ∙ carried.source_faults;
-    keeps = keeps_on board source' (length (outputs_for carried.done)) carried.lines.same carried.lines.stays carried.lines.work asks;
+    keeps = keeps_on board source' (length (outputs_for blocks carried.done)) carried.lines.same carried.lines.stays carried.lines.work asks;
   }
     where
       so_far : IsTrue (input.tells origin) → Taken (input.left origin) (input.left source') carried.done
@@ -218,12 +226,12 @@ module _ {B S : Type 0} (means : BoardMeaning B) (input : SourceMeaning S)
 
     -- the outputs of the command, behind those before it
     abbrev own : List Output
-    own = (step (length carried.done + 1) command table).outputs
+    own = (step blocks (length carried.done + 1) command table).outputs
 
-    outputs_on : outputs_for carried.done ++ own ≡ outputs_for (carried.done ++ command ∷ [])
+    outputs_on : outputs_for blocks carried.done ++ own ≡ outputs_for blocks (carried.done ++ command ∷ [])
     outputs_on =
-        ap (λ (t : Table). outputs_for carried.done ++ (step (length carried.done + 1) command t).outputs) carried.stands
-        ∙ sym (run-more_outputs after_format carried.done command)
+        ap (λ (t : Table). outputs_for blocks carried.done ++ (step blocks (length carried.done + 1) command t).outputs) carried.stands
+        ∙ sym (run-more_outputs blocks after_format carried.done command)
 
     -- there was no memory for the command, of which nothing was sent
     pub ended_memory : IsStoredArrival command table → Ended means input first board origin source' NoMemory
@@ -235,26 +243,26 @@ module _ {B S : Type 0} (means : BoardMeaning B) (input : SourceMeaning S)
       sending = λ told. (carried.done, stops told, carried.lines);
       moments = λ link. weaker means first board _ _
           (carried.lines.moments link)
-          (λ octets gains. may_be_sent (means.sent first (means.moment first)) octets carried.done (read_of (input.left origin) (input.left source')) gains
-          (λ told. lines_front (input.left origin) (input.left source') carried.done (before told)));
+          (λ octets gains. may_be_sent blocks (means.sent first (means.moment first)) octets carried.done (read_of (input.left origin) (input.left source')) gains
+          (λ told. lines_front blocks (input.left origin) (input.left source') carried.done (before told)));
       link_cause = λ is. absurd cc;
       source_cause = λ is. absurd cc;
       link_kept = λ is. carried.lines.no_fault;
       source_kept = λ is. unfailed ∙ carried.source_faults;
-      keeps = keeps_on board source' (length (outputs_for carried.done)) carried.lines.same carried.lines.stays carried.lines.work asks_once;
+      keeps = keeps_on board source' (length (outputs_for blocks carried.done)) carried.lines.same carried.lines.stays carried.lines.work asks_once;
     }
       where
         others_on : (told : IsTrue (input.tells origin)) → carried.done ++ command ∷ (taken_on told).others ≡ read_of (input.left origin) (input.left source')
         others_on told = sym (append_assoc carried.done (command ∷ []) (taken_on told).others) ∙ (taken_on told).begins
 
-        stops : IsTrue (input.tells origin) → StopsAt (input.left origin) (input.left source') carried.done
+        stops : IsTrue (input.tells origin) → StopsAt blocks (input.left origin) (input.left source') carried.done
         stops told = AtArrival command (taken_on told).others (others_on told) (subst (IsStoredArrival command) carried.stands stored)
 
         before : IsTrue (input.tells origin) → Taken (input.left origin) (input.left source') carried.done
         before told = record { split = (taken_on told).split; others = command ∷ (taken_on told).others; begins = others_on told }
 
     -- the link failed within the command
-    pub ended_link : (board' : B) → ((number : ℕ) → BreaksIn means board board' (step number command table).outputs)
+    pub ended_link : (board' : B) → ((number : ℕ) → BreaksIn means board board' (step (means.device board).blocks number command table).outputs)
         → Ended means input first board' origin source' LinkFault
     ended_link board' breaks = record {
       known = λ is. cc;
@@ -262,35 +270,35 @@ module _ {B S : Type 0} (means : BoardMeaning B) (input : SourceMeaning S)
       taken = λ told. (taken_on told).split;
       reading = λ told. tt;
       sending = λ told.
-          let front = outputs_front (input.left origin) (input.left source') (carried.done ++ command ∷ []) (taken_on told) in
-          subst (λ (outputs : List Output). BreaksIn means first board' outputs) front.1 (breaks_early means first board' (outputs_for (carried.done ++ command ∷ [])) front.0 broken);
+          let front = outputs_front blocks (input.left origin) (input.left source') (carried.done ++ command ∷ []) (taken_on told) in
+          subst (λ (outputs : List Output). BreaksIn means first board' outputs) front.1 (breaks_early means first board' (outputs_for blocks (carried.done ++ command ∷ [])) front.0 broken);
       moments = λ link. weaker means first board' _ _
           (broken.moments link)
-          (λ octets gains. may_be_sent (means.sent first (means.moment first)) octets (carried.done ++ command ∷ []) (read_of (input.left origin) (input.left source')) gains
-          (λ told. lines_front (input.left origin) (input.left source') (carried.done ++ command ∷ []) (taken_on told)));
+          (λ octets gains. may_be_sent blocks (means.sent first (means.moment first)) octets (carried.done ++ command ∷ []) (read_of (input.left origin) (input.left source')) gains
+          (λ told. lines_front blocks (input.left origin) (input.left source') (carried.done ++ command ∷ []) (taken_on told)));
       link_cause = λ is. broken.cause;
       source_cause = λ is. absurd cc;
       link_kept = λ other. absurd (other refl);
       source_kept = λ is. unfailed ∙ carried.source_faults;
-      keeps = keeps_on board' source' (length (outputs_for (carried.done ++ command ∷ []))) broken.same broken.stays broken.work asks_once;
+      keeps = keeps_on board' source' (length (outputs_for blocks (carried.done ++ command ∷ []))) broken.same broken.stays broken.work asks_once;
     }
       where
-        broken : BreaksIn means first board' (outputs_for (carried.done ++ command ∷ []))
+        broken : BreaksIn means first board' (outputs_for blocks (carried.done ++ command ∷ []))
         broken = subst (λ (outputs : List Output). BreaksIn means first board' outputs) outputs_on
-            (breaks_on means first board board' (outputs_for carried.done) own carried.lines (breaks (length carried.done + 1)))
+            (breaks_on means first board board' (outputs_for blocks carried.done) own carried.lines (subst (λ (n : ℕ). BreaksIn means board board' (step n (length carried.done + 1) command table).outputs) blocks_same (breaks (length carried.done + 1))))
 
     -- the command was carried out
-    pub goes_further : (board' : B) (table' : Table) → ((number : ℕ) → table' ≡ (step number command table).table)
-        → ((number : ℕ) → SendsLines means board board' (step number command table).outputs)
+    pub goes_further : (board' : B) (table' : Table) → ((number : ℕ) → table' ≡ (step (means.device board).blocks number command table).table)
+        → ((number : ℕ) → SendsLines means board board' (step (means.device board).blocks number command table).outputs)
         → Carried means input first board' origin source' reader' table'
     goes_further board' table' stands sends = record {
       done = carried.done ++ command ∷ [];
       live = advances.live;
       limit = advances.limit ∙ carried.limit;
       read = read_on;
-      stands = stands (length carried.done + 1) ∙ ap (λ (t : Table). (step (length carried.done + 1) command t).table) carried.stands ∙ sym (run-more_table after_format carried.done command);
+      stands = stands (length carried.done + 1) ∙ ap (λ (n : ℕ). (step n (length carried.done + 1) command table).table) blocks_same ∙ ap (λ (t : Table). (step blocks (length carried.done + 1) command t).table) carried.stands ∙ sym (run-more_table blocks after_format carried.done command);
       lines = subst (λ (outputs : List Output). SendsLines means first board' outputs) outputs_on
-          (lines_on means first board board' (outputs_for carried.done) own carried.lines (sends (length carried.done + 1)));
+          (lines_on means first board board' (outputs_for blocks carried.done) own carried.lines (subst (λ (n : ℕ). SendsLines means board board' (step n (length carried.done + 1) command table).outputs) blocks_same (sends (length carried.done + 1))));
       tells = asks.tells ∙ carried.tells;
       source_faults = unfailed ∙ carried.source_faults;
       takes_from = omega (arith, carried.takes_from, asks.takes_from);

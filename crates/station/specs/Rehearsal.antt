@@ -42,10 +42,10 @@ pub record Rehearsed (blocks : ℕ) (text : List ℕ) (ending : Ending) (board :
   pub device : (device_of board).blocks ≡ blocks
   pub known : ending ≢ BadWords
   pub taken : text ≡ taken_of text (left_of source) ++ left_of source
-  pub reading : EndsReading text (left_of source) ending
-  pub sending : EndsSending text (left_of source) (HasSent board) (λ outputs. ⊤) ending
+  pub reading : EndsReading blocks text (left_of source) ending
+  pub sending : EndsSending blocks text (left_of source) (HasSent board) (λ outputs. ⊤) ending
   -- at every moment
-  pub moments : (t : ℕ) → t ≤ moment_of board → IsPrefixOf (sent_at board t) (lines_for (read_of text (left_of source)))
+  pub moments : (t : ℕ) → t ≤ moment_of board → IsPrefixOf (sent_at board t) (lines_for blocks (read_of text (left_of source)))
   pub flash : HoldsFormatted blocks ending board
   -- the source was asked once more at most than it gave octets
   pub takes : takes_made source + length (left_of source) ≤ length text + 1

@@ -20,12 +20,12 @@ use Rattle.pst_model.specs.Table.{Table, after_format}
 abbrev pub text_limit : ℕ
 text_limit = 1099511627776
 
--- what goes out for commands on the table after a format, and its lines
-abbrev pub outputs_for : List Command → List Output
-outputs_for commands = (run after_format commands).outputs
+-- what goes out for commands on the table after a format, on a device of so many blocks, and its lines
+abbrev pub outputs_for : (blocks : ℕ) → List Command → List Output
+outputs_for blocks commands = (run blocks after_format commands).outputs
 
-abbrev pub lines_for : List Command → List ℕ
-lines_for commands = lines_of (outputs_for commands)
+abbrev pub lines_for : (blocks : ℕ) → List Command → List ℕ
+lines_for blocks commands = lines_of (outputs_for blocks commands)
 
 -- the octets that were taken of a text, of which these are left
 abbrev pub taken_of : (text left : List ℕ) → List ℕ
@@ -47,41 +47,41 @@ IsStoredArrival (Grant moment) table = ⊥
 
 -- Where memory may be wanting, with these commands carried out: none, and nothing was taken of the text; or those
 -- in front of an arrival that is stored.
-pub data StopsAt (text left : List ℕ) (done : List Command) : Type 0 where
-  Unbegun : done ≡ [] → left ≡ text → StopsAt text left done
+pub data StopsAt (blocks : ℕ) (text left : List ℕ) (done : List Command) : Type 0 where
+  Unbegun : done ≡ [] → left ≡ text → StopsAt blocks text left done
   AtArrival : (command : Command) (others : List Command) → done ++ command ∷ others ≡ read_of text left
-      → IsStoredArrival command (run after_format done).table → StopsAt text left done
+      → IsStoredArrival command (run blocks after_format done).table → StopsAt blocks text left done
 
 -- What an ending says of the text, of which these octets are left: at Done it was read to its end and has
 -- no bad line, BadLine is its first one, where the source failed no whole line that was taken is bad, memory was
 -- wanting for the session or for an arrival, and where the flash failed nothing was taken.
-abbrev pub EndsReading : (text left : List ℕ) → Ending → Type 0
-EndsReading text left Done = (first_bad text_limit text ≡ None) × (left ≡ [])
-EndsReading text left (BadLine line why) = first_bad text_limit text ≡ Some (line, why)
-EndsReading text left SourceFault = bad_read text_limit (taken_of text left) ≡ None
-EndsReading text left LinkFault = ⊤
-EndsReading text left FlashFault = left ≡ text
-EndsReading text left NoMemory = (done : List Command) × StopsAt text left done
-EndsReading text left BadWords = ⊤
+abbrev pub EndsReading : (blocks : ℕ) → (text left : List ℕ) → Ending → Type 0
+EndsReading blocks text left Done = (first_bad text_limit text ≡ None) × (left ≡ [])
+EndsReading blocks text left (BadLine line why) = first_bad text_limit text ≡ Some (line, why)
+EndsReading blocks text left SourceFault = bad_read text_limit (taken_of text left) ≡ None
+EndsReading blocks text left LinkFault = ⊤
+EndsReading blocks text left FlashFault = left ≡ text
+EndsReading blocks text left NoMemory = (done : List Command) × StopsAt blocks text left done
+EndsReading blocks text left BadWords = ⊤
 
 -- What an ending says of what was sent: all of the outputs for the text's commands, for the commands before its
 -- first bad line, for the commands read, and for those carried out where memory was wanting. Where the link
 -- failed, it broke within the outputs for the commands read. Where the flash failed nothing was sent.
-abbrev pub EndsSending : (text left : List ℕ) → (Sent Broken : List Output → Type 0) → Ending → Type 0
-EndsSending text left Sent Broken Done = Sent (outputs_for (commands_of text_limit text))
-EndsSending text left Sent Broken (BadLine line why) = Sent (outputs_for (commands_of text_limit text))
-EndsSending text left Sent Broken SourceFault = Sent (outputs_for (read_of text left))
-EndsSending text left Sent Broken LinkFault = Broken (outputs_for (read_of text left))
-EndsSending text left Sent Broken FlashFault = Sent []
-EndsSending text left Sent Broken NoMemory = (done : List Command) × StopsAt text left done × Sent (outputs_for done)
-EndsSending text left Sent Broken BadWords = ⊤
+abbrev pub EndsSending : (blocks : ℕ) → (text left : List ℕ) → (Sent Broken : List Output → Type 0) → Ending → Type 0
+EndsSending blocks text left Sent Broken Done = Sent (outputs_for blocks (commands_of text_limit text))
+EndsSending blocks text left Sent Broken (BadLine line why) = Sent (outputs_for blocks (commands_of text_limit text))
+EndsSending blocks text left Sent Broken SourceFault = Sent (outputs_for blocks (read_of text left))
+EndsSending blocks text left Sent Broken LinkFault = Broken (outputs_for blocks (read_of text left))
+EndsSending blocks text left Sent Broken FlashFault = Sent []
+EndsSending blocks text left Sent Broken NoMemory = (done : List Command) × StopsAt blocks text left done × Sent (outputs_for blocks done)
+EndsSending blocks text left Sent Broken BadWords = ⊤
 
 -- What the link may have sent by a moment: what it had sent before, and behind it, where the text is told, a
 -- front of the lines of the commands read.
-pub record MayBeSent (told : Bool) (read : List Command) (before octets : List ℕ) : Type 0 where
+pub record MayBeSent (blocks : ℕ) (told : Bool) (read : List Command) (before octets : List ℕ) : Type 0 where
   pub gained : List ℕ
   pub behind : octets ≡ before ++ gained
-  pub lines : IsTrue told → GainsFront before (lines_for read) octets
+  pub lines : IsTrue told → GainsFront before (lines_for blocks read) octets
 
 -- Where nothing failed, a session ends as its text says, unless there was no memory.
 abbrev pub EndsAsTold : (text : List ℕ) → Ending → Type 0
@@ -109,8 +109,8 @@ module _ {B S : Type 0} (means : BoardMeaning B) (input : SourceMeaning S) where
     pub live : reader.live ≡ true
     pub limit : reader.limit ≡ text_limit
     pub read : IsTrue (input.tells source) → HasRead (input.left source) done reader (input.left source')
-    pub stands : table ≡ (run after_format done).table
-    pub lines : SendsLines means board board' (outputs_for done)
+    pub stands : table ≡ (run (means.device board).blocks after_format done).table
+    pub lines : SendsLines means board board' (outputs_for (means.device board).blocks done)
     pub tells : input.tells source' ≡ input.tells source
     pub source_faults : input.faults source' ≡ input.faults source
     pub takes_from : input.takes source ≤ input.takes source'
@@ -123,10 +123,10 @@ module _ {B S : Type 0} (means : BoardMeaning B) (input : SourceMeaning S) where
     pub unformatted : ending ≢ FlashFault
     pub taken : IsTrue (input.tells source)
         → input.left source ≡ taken_of (input.left source) (input.left source') ++ input.left source'
-    pub reading : IsTrue (input.tells source) → EndsReading (input.left source) (input.left source') ending
-    pub sending : IsTrue (input.tells source) → EndsSending (input.left source) (input.left source')
+    pub reading : IsTrue (input.tells source) → EndsReading (means.device board).blocks (input.left source) (input.left source') ending
+    pub sending : IsTrue (input.tells source) → EndsSending (means.device board).blocks (input.left source) (input.left source')
         (SendsLines means board board') (BreaksIn means board board') ending
-    pub moments : TellsLink means board → SendsOnly means board board' (MayBeSent (input.tells source)
+    pub moments : TellsLink means board → SendsOnly means board board' (MayBeSent (means.device board).blocks (input.tells source)
         (read_of (input.left source) (input.left source')) (means.sent board (means.moment board)))
     pub link_cause : ending ≡ LinkFault → Rose (means.counts board).link_faults (means.counts board').link_faults
     pub source_cause : ending ≡ SourceFault → Rose (input.faults source) (input.faults source')

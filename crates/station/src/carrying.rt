@@ -32,9 +32,9 @@ fn carry_out<B: Board>(
     requires open { IsTrue (is_open handler.old) }
     requires moment { moment_of command < 2 ^ 48 }
     ensures done { IfOk result (CarriesOut B.means board.old board.new
-        (λ number. step number (command_of command.entry) (table_in handler.old)) (table_in handler.new)) }
+        (λ number. step (B.means.device board.old).blocks number (command_of command.entry) (table_in handler.old)) (table_in handler.new)) }
     ensures breaks { OnLink result ((number : ℕ) → BreaksIn B.means board.old board.new
-        (step number (command_of command.entry) (table_in handler.old)).outputs) }
+        (step (B.means.device board.old).blocks number (command_of command.entry) (table_in handler.old)).outputs) }
     ensures nothing { OnNoMemory result (board.new ≡ board.old) }
     ensures stored { OnNoMemory result (IsStoredArrival (command_of command.entry) (table_in handler.old)) }
     ensures open { OnOk result (is_open handler.new ≡ true) }

@@ -32,14 +32,14 @@ pub fn station<B: Board, S: Source>(
     ensures taken { IsTrue (S.means.tells source.old) → S.means.left source.old
         ≡ taken_of (S.means.left source.old) (S.means.left source.new) ++ S.means.left source.new }
     ensures reading { ¬ (AreFormat (texts_of words.now)) → IsTrue (S.means.tells source.old)
-        → EndsReading (S.means.left source.old) (S.means.left source.new) result }
+        → EndsReading (B.means.device board.old).blocks (S.means.left source.old) (S.means.left source.new) result }
 
     // What was sent, at the ending and at every moment.
     ensures sending { ¬ (AreFormat (texts_of words.now)) → IsTrue (S.means.tells source.old)
-        → EndsSending (S.means.left source.old) (S.means.left source.new)
+        → EndsSending (B.means.device board.old).blocks (S.means.left source.old) (S.means.left source.new)
         (LinkSends B.means board.old board.new) (LinkBreaks B.means board.old board.new) result }
     ensures any_moment { TellsLink B.means board.old
-        → SendsOnly B.means board.old board.new (MayBeSent (S.means.tells source.old)
+        → SendsOnly B.means board.old board.new (MayBeSent (B.means.device board.old).blocks (S.means.tells source.old)
         (read_of (S.means.left source.old) (S.means.left source.new)) (B.means.sent board.old (B.means.moment board.old))) }
 
     // What the flash holds, from before the first octet sent to the ending.

@@ -1,7 +1,7 @@
 // What reports say of the boot store.
 ghost use Rattle.std.specs.Prelude.{◌≡◌, ◌<◌, ◌^◌, is_some, find, option_to_list, IfSome, MatchOption};
 ghost use Rattle.pst_model.specs.Contents.{config_of, status_of, summary_asked, summary_of};
-ghost use Rattle.pst_model.specs.Instructions.{is_named};
+ghost use Rattle.pst_model.specs.Changes.{is_named};
 ghost use Rattle.pst_model.specs.Reports.{HasTimes};
 
 use super::MemTable;

@@ -1,7 +1,7 @@
 use Rattle.std.proofs.Common.{ℕ, List, take, Option, sym, ◌∙◌, ap, subst}
 use Rattle.session_text.proofs.Buffers.{on_err}
 use Rattle.pus_request.specs.declared.items.Items.{Items}
-use Rattle.pst_model.specs.Answers.{replies_from}
+use Rattle.pst_model.specs.Replies.{replies_from}
 use Rattle.pst_model.specs.Reports.{Report}
 use Rattle.pst_model.specs.Rules.{Output}
 use Rattle.handler.specs.Asked.{content_asked}

@@ -3,7 +3,7 @@ use Rattle.std.proofs.lemmas.List.{take_all}
 use Rattle.session_text.proofs.Buffers.{on_err}
 use Rattle.pst_model.specs.declared.verdicts.Verdict.{Verdict}
 use Rattle.pst_model.specs.declared.verdicts.Verdict.TheVariants.{Accepted}
-use Rattle.pst_model.specs.Answers.{replies_from, reply}
+use Rattle.pst_model.specs.Replies.{replies_from, reply}
 use Rattle.pst_model.specs.Output.{output_line}
 use Rattle.pst_model.specs.Reports.{count_behind, report_packet, verdict_report}
 use Rattle.pst_model.specs.Rules.{Output}

@@ -1,5 +1,5 @@
 use Rattle.std.proofs.Common.{◌≡◌, ◌≤◌, ℕ, ◌*◌, map, take}
-use Rattle.pst_model.specs.Answers.{replies_from}
+use Rattle.pst_model.specs.Replies.{replies_from}
 use Rattle.pst_model.specs.Reports.{count_behind, verdict_report}
 use Rattle.handler.specs.Counting.{IsCountOf}
 use Rattle.handler.specs.Sending.{SendsLines}

@@ -11,7 +11,7 @@ returns-clause-prints g c other told =
     let before = g.W.Write.contents c.args.output.now in
     let after = g.W.Write.contents c.print_sent-printed.new.output in
     let same = ap (λ (input : g.row.R.Denot). octets_left (g.R.Read.remaining input)) c.new-source.ensures.input in
-    subst (λ (text : List ℕ). EndsPrinting text before after c.outcome.result) same
+    subst (λ (text : List ℕ). EndsPrinting c.args.blocks text before after c.outcome.result) same
     (prints (octets_left (g.R.Read.remaining c.new-source.result.input)) left before after
     c.args.blocks c.in-Ok.board c.station-ending.new.board c.in-Ok.ensures g.R.Reader.tells told
     c.station-ending.result c.outcome.result c.starved.result c.print_sent-printed.result

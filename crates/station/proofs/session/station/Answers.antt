@@ -1,10 +1,11 @@
-use Rattle.std.proofs.Common.{[], refl, arith}
+use Rattle.std.proofs.Common.{ℕ, [], ap, refl, subst, arith}
+use Rattle.board.specs.Device.{Device}
 use Rattle.board.proofs.Runs.{started}
 use Rattle.board.proofs.Touching.{touches_most, touches_none}
-use Rattle.handler.specs.Sending.{SendsLines}
+use Rattle.handler.specs.Sending.{BreaksIn, SendsLines}
 use Rattle.handler.proofs.Sendings.{lines_none}
 use Rattle.meta_journal.specs.Halves.{format_pages}
-use Rattle.station.specs.Session.{read_of}
+use Rattle.station.specs.Session.{EndsReading, EndsSending, read_of}
 use Rattle.station.proofs.Beginning.{keeps_none, may_be_none}
 use Rattle.station.proofs.Promises.{ends_as, holds_format, keeps_pages, link_breaks, link_sends, may_be_on}
 use Rattle.station.proofs.session.station.Given.{Over}
@@ -30,8 +31,8 @@ returns-in_default-clause-any_moment g c =
     let tells = input.tells c.args.source.now in
     let left = input.left c.args.source.now in
     let mid = c.format.new.board in
-    may_be_on means c.args.board.now mid mid c.format.ensures.touches tells (read_of left left)
-    (λ link. started means mid _ (may_be_none tells (read_of left left) (means.sent mid (means.moment mid))))
+    may_be_on means c.args.board.now mid mid c.format.ensures.touches (means.device c.args.board.now).blocks tells (read_of left left)
+    (λ link. started means mid _ (may_be_none (means.device c.args.board.now).blocks tells (read_of left left) (means.sent mid (means.moment mid))))
 
 pub returns-then-only_formats-clause-any_moment : goal.returns-then-only_formats-clause-any_moment
 returns-then-only_formats-clause-any_moment g c =
@@ -40,8 +41,8 @@ returns-then-only_formats-clause-any_moment g c =
     let tells = input.tells c.args.source.now in
     let left = input.left c.args.source.now in
     let mid = c.format.new.board in
-    may_be_on means c.args.board.now mid mid c.format.ensures.touches tells (read_of left left)
-    (λ link. started means mid _ (may_be_none tells (read_of left left) (means.sent mid (means.moment mid))))
+    may_be_on means c.args.board.now mid mid c.format.ensures.touches (means.device c.args.board.now).blocks tells (read_of left left)
+    (λ link. started means mid _ (may_be_none (means.device c.args.board.now).blocks tells (read_of left left) (means.sent mid (means.moment mid))))
 
 pub returns-then-only_formats-clause-holds : goal.returns-then-only_formats-clause-holds
 returns-then-only_formats-clause-holds g c known unfailed told =
@@ -50,14 +51,20 @@ returns-then-only_formats-clause-holds g c known unfailed told =
     holds_format means c.args.board.now mid mid c.format.ensures.touches
     (no_lines g mid).stays (λ link t le. refl) c.in-Ok.ensures.formatted c.in-Ok.ensures.later told
 
+pub returns-clause-reading : goal.returns-clause-reading
+returns-clause-reading g c fresh told =
+    subst (λ (n : ℕ). EndsReading n (g.S.Source.means.left c.args.source.now) (g.S.Source.means.left c.carry_out_text.new.source) c.carry_out_text.result)
+    (ap (λ (device : Device). device.blocks) c.format.ensures.touches.same) (c.carry_out_text.ensures.reading told)
+
 pub returns-clause-sending : goal.returns-clause-sending
 returns-clause-sending g c fresh told =
     let means = g.B.Board.means in
     let mid = c.format.new.board in
     let new = c.carry_out_text.new.board in
-    ends_as (g.S.Source.means.left c.args.source.now) (g.S.Source.means.left c.carry_out_text.new.source) c.carry_out_text.result
+    ends_as (means.device c.args.board.now).blocks (g.S.Source.means.left c.args.source.now) (g.S.Source.means.left c.carry_out_text.new.source) c.carry_out_text.result
     (link_sends means c.args.board.now mid new c.format.ensures.touches) (link_breaks means c.args.board.now mid new c.format.ensures.touches)
-    (c.carry_out_text.ensures.sending told)
+    (subst (λ (n : ℕ). EndsSending n (g.S.Source.means.left c.args.source.now) (g.S.Source.means.left c.carry_out_text.new.source) (SendsLines means mid new) (BreaksIn means mid new) c.carry_out_text.result)
+    (ap (λ (device : Device). device.blocks) c.format.ensures.touches.same) (c.carry_out_text.ensures.sending told))
 
 pub returns-clause-holds : goal.returns-clause-holds
 returns-clause-holds g c known unfailed told =

@@ -11,7 +11,7 @@ pub returns-in-Ok-clause-done : goal.returns-in-Ok-clause-done
 returns-in-Ok-clause-done g c =
     let means = g.B.Board.means in
     let is = λ (number : ℕ).
-    answered number c.args.moment (octets_of c.args.packet) c.identifier_of-identifier.result (table_of c.args.self.now.table) (table_of c.carry_out_request-outcome.new.table) c.carry_out_request-outcome.result
+    answered (means.device c.args.board.now).blocks number c.args.moment (octets_of c.args.packet) c.identifier_of-identifier.result (table_of c.args.self.now.table) (table_of c.carry_out_request-outcome.new.table) c.carry_out_request-outcome.result
     c.carry_out_request-outcome.ensures c.identifier_of-identifier.ensures in
     record {
       table = λ number. c.in-Ok.ensures.table number ∙ ap (λ (step : Step). step.table) (is number);
@@ -25,6 +25,6 @@ returns-in-Err-clause-breaks g c =
     rw c.close.ensures.fault
     (λ (number : ℕ).
     subst (λ (step : Step). BreaksIn means c.args.board.now c.send_answer.new.board step.outputs)
-    (answered number c.args.moment (octets_of c.args.packet) c.identifier_of-identifier.result (table_of c.args.self.now.table) (table_of c.carry_out_request-outcome.new.table) c.carry_out_request-outcome.result
+    (answered (means.device c.args.board.now).blocks number c.args.moment (octets_of c.args.packet) c.identifier_of-identifier.result (table_of c.args.self.now.table) (table_of c.carry_out_request-outcome.new.table) c.carry_out_request-outcome.result
     c.carry_out_request-outcome.ensures c.identifier_of-identifier.ensures)
     (c.in-Err.ensures.breaks number))

@@ -36,9 +36,9 @@ returns-clause-table c number =
       | then-takes+in_ok-put w ↦
           ap (λ (table : MemTable). later (table_of table)) w.self-is ∙ ap later w.in_ok-put.ensures.ok
           ∙ moved c.max-now.result moment packet old c.max-now.ensures
-          ∙ sym (taken old.forward old.types old.storage old.open_on stored old.behind packet (sym c.takes.ensures ∙ w.if-takes.true) number moment old.clock old.reports (omega arith))
+          ∙ sym (taken old.types old.storage old.open_on stored old.behind packet (sym c.takes.ensures ∙ w.if-takes.true) (omega arith) old.forward number moment old.clock old.reports old.counted)
       | else-takes w ↦
           ap (λ (table : MemTable). later (table_of table)) w.self-is
           ∙ ap (λ n. record (table_of old) { now = n }) c.max-now.ensures
-          ∙ sym (untaken old.forward old.types old.storage old.open_on stored old.behind packet (sym c.takes.ensures ∙ w.if-takes.false) number moment old.clock old.reports)
+          ∙ sym (untaken old.types old.storage old.open_on stored old.behind packet (sym c.takes.ensures ∙ w.if-takes.false) (omega arith) old.forward number moment old.clock old.reports old.counted)
     ]
