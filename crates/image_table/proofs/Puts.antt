@@ -8,7 +8,7 @@ use Rattle.std.proofs.lemmas.Option.{none-some, same_Some}
 use Rattle.space_packet.specs.Charge.{charge_of}
 use Rattle.block_pool.specs.Sizes.{blocks_for_size}
 use Rattle.chain_log.specs.Pages.{block_octets}
-use Rattle.pst_model.specs.Instructions.{is_named}
+use Rattle.pst_model.specs.Changes.{is_named}
 use Rattle.pst_model.specs.Rules.{at_first}
 use Rattle.pst_model.specs.Table.{Store, Stored, Table, content_in}
 use Rattle.record_view.specs.Records.{Meaning, record_at}

@@ -7,7 +7,7 @@ use Rattle.std.proofs.lemmas.List.Elements.{All-head, All-tail}
 use Rattle.std.proofs.lemmas.Option.{none-some, same_Some}
 use Rattle.space_packet.specs.Charge.{charge_of}
 use Rattle.board.specs.Flash.{IsContent}
-use Rattle.pst_model.specs.Instructions.{is_named}
+use Rattle.pst_model.specs.Changes.{is_named}
 use Rattle.pst_model.specs.Rules.{at_first}
 use Rattle.pst_model.specs.Table.{Store, content_in}
 use Rattle.record_view.specs.Records.{Meaning}

@@ -2,7 +2,7 @@
 use Rattle.std.specs.Prelude.{◌≡◌, ◌<◌, ◌^◌, ℕ, true, List, [], ◌∷◌, ◌++◌, drop, Some}
 use Rattle.std.specs.Option.{option_map}
 use Rattle.board.specs.Flash.{IsContent}
-use Rattle.pst_model.specs.Instructions.{is_named}
+use Rattle.pst_model.specs.Changes.{is_named}
 use Rattle.pst_model.specs.Rules.{at_first}
 use Rattle.pst_model.specs.Table.{Store, Stored, Table}
 use Rattle.record_view.specs.declared.link.Link.{Link}

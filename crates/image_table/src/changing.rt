@@ -2,7 +2,7 @@
 ghost use Rattle.std.specs.Prelude.{◌≡◌, ◌≤◌, ◌+◌, ◌∷◌, ℕ, List, [], Some, drop, find, length};
 ghost use Rattle.space_packet.specs.Charge.{charge_of};
 ghost use Rattle.chain_log.specs.Pages.{block_octets};
-ghost use Rattle.pst_model.specs.Instructions.{is_named};
+ghost use Rattle.pst_model.specs.Changes.{is_named};
 ghost use Rattle.pst_model.specs.Table.{Store, Table, content_in};
 ghost use Rattle.record_view.specs.Records.{Meaning, record_at};
 ghost use Rattle.record_view.specs.declared.link.Link.{Link};
