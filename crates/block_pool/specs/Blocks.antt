@@ -45,6 +45,10 @@ new_pool blocks = record {
   wear = replicate blocks 0;
 }
 
+-- every data block of the device is free
+abbrev pub AllAreFree : Blocks → Type 0
+AllAreFree pool = (block : ℕ) → IsData pool block → is_free pool block ≡ true
+
 -- A free block with the least erase count of the free blocks, and the lowest number among those
 -- with that count.
 pub record IsLeastWorn (pool : Blocks) (block : ℕ) : Type 0 where

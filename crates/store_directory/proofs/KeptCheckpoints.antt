@@ -17,7 +17,7 @@ patterns_fit : (patterns : List Pattern) → IsPatternList patterns → FitPatte
 patterns_fit patterns list = let few = list.fits in record { few = omega (arith, few); each = list.ranges }
 
 -- a lawful row has at most 100,000 pages
-few_pages : (row : Row) → is_lawful_row row ≡ true → row.size ≤ 100000
+pub few_pages : (row : Row) → is_lawful_row row ≡ true → row.size ≤ 100000
 few_pages row lawful =
     let least = nat_le 1 row.size in
     let most = nat_le row.size 100000 in

@@ -1,4 +1,6 @@
 pub mod BlockPages
+pub mod Taking
+pub mod Claims
 pub mod Eachs
 pub mod Records
 pub mod More
