@@ -20,6 +20,7 @@ use Rattle.store_load.specs.Each.{each}
 use Rattle.store_load.specs.Extents.{pages_in}
 use Rattle.store_load.specs.Keeping.{Keeps}
 use Rattle.store_load.specs.Kept.{kept_of}
+use Rattle.store_load.proofs.Rows.{row_numbers}
 use Rattle.store_load.proofs.Eachs.{EachIs, each_cons, each_more}
 use Rattle.image_table.specs.Table.{store_of, stored_of, table_rule}
 use Rattle.image_table.proofs.Frames.{data_links, own_links, shared_links, store_kept}
@@ -136,23 +137,6 @@ data_found blocks identifier (x ∷ stores) s all is =
     pick deeper true is = subst (λ (y : Listed). list_all (is_data blocks) y.links ≡ true) (same_Some x s is) all.0
     pick deeper false is = deeper is
 
--- a lawful row counts 100,000 records at most
-few_records : (row : Row) → is_lawful_row row ≡ true → (row.size ≤ 100000) × (row.count ≤ row.size)
-few_records row lawful = numbers row.size row.channel row.count row.behind (is_range row.count row.range) lawful
-  where
-    numbers : (size channel count behind : ℕ) (range : Bool)
-        → (nat_le 1 size && nat_le size 100000 && nat_le 1 channel && nat_le channel 7 && nat_le count size && nat_le behind count && range) ≡ true
-        → (size ≤ 100000) × (count ≤ size)
-    numbers size channel count behind range h =
-        let front = (and_parts (nat_le 1 size && nat_le size 100000 && nat_le 1 channel && nat_le channel 7 && nat_le count size && nat_le behind count) range h).0 in
-        (most size channel count behind front, fits size channel count behind front)
-      where
-        most : (size channel count behind : ℕ) → (nat_le 1 size && nat_le size 100000 && nat_le 1 channel && nat_le channel 7 && nat_le count size && nat_le behind count) ≡ true → size ≤ 100000
-        most size channel count behind h = grind (arith, nat_tests)
-
-        fits : (size channel count behind : ℕ) → (nat_le 1 size && nat_le size 100000 && nat_le 1 channel && nat_le channel 7 && nat_le count size && nat_le behind count) ≡ true → count ≤ size
-        fits size channel count behind h = grind (arith, nat_tests)
-
 -- a store of the directory keeps its records
 pub store_keeps : (blocks : ℕ) (image : ℕ → List ℕ) (d : Directory) (identifier now : ℕ) (s : Listed) (records : List Meaning)
     → IsContent blocks image → IsDirectory d → may_share 240 blocks d.stores ≡ true → find_store identifier d.stores ≡ Some s
@@ -160,7 +144,7 @@ pub store_keeps : (blocks : ℕ) (image : ℕ → List ℕ) (d : Directory) (ide
 store_keeps blocks image d identifier now s records pages directory share is kept =
     let listed = listed_found identifier d.stores s directory.stores.each is in
     let own = own_links blocks s.links (data_found blocks identifier d.stores s (data_links blocks d.stores (shared_links blocks d.stores share)) is) in
-    let numbers = few_records s.row listed.lawful in
+    let numbers = row_numbers s.row listed.lawful in
     record {
       pages = pages;
       count = omega (arith, numbers.0, numbers.1);

@@ -1,3 +1,7 @@
+pub mod Taking
+pub mod Claims
+pub mod Pools
+pub mod Rows
 pub mod Eachs
 pub mod Records
 pub mod More

@@ -2,6 +2,7 @@ pub mod Each
 pub mod Extents
 pub mod Kept
 pub mod Claims
+pub mod Taking
 pub mod Keeping
 pub mod Trimmed
 pub mod Frame
