@@ -12,3 +12,6 @@ pub mod Frames
 pub mod Blocks
 pub mod Going
 pub mod KeptRows
+pub mod Filling
+pub mod LinkLoading
+pub mod LinkWalks

@@ -7,3 +7,4 @@ pub mod Keeping
 pub mod Trimmed
 pub mod Frame
 pub mod Moving
+pub mod Loading

@@ -3,7 +3,10 @@
 
 mod claiming;
 mod laws;
+mod link_loading;
+mod loading;
 mod rule;
+mod stop;
 
 pub use claiming::claim;
 pub use laws::{
