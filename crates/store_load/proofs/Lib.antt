@@ -15,3 +15,5 @@ pub mod KeptRows
 pub mod Filling
 pub mod LinkLoading
 pub mod LinkWalks
+pub mod Takings
+pub mod Indexed

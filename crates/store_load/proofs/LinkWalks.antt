@@ -1,6 +1,6 @@
 -- The extents of links, one after another.
 use Rattle.std.proofs.Common.{◌≡◌, ℕ, zero, suc, ◌≤◌, ◌||◌, nat_le, true, false, List, [], ◌∷◌, length, drop, Option, Some, None, Result, Ok, Err, subst, refl, sym, ◌∙◌, ap, arith}
-use Rattle.std.specs.Prelude.{MatchOption, slice_get}
+use Rattle.std.specs.Prelude.{IfSome, MatchOption, slice_get}
 use Rattle.std.specs.List.{All}
 use Rattle.std.proofs.lemmas.Bool.{le-leb}
 use Rattle.std.proofs.lemmas.Bool.Decides.{nat_tests}
@@ -9,8 +9,11 @@ use Rattle.std.proofs.lemmas.Option.{same_Some}
 use Rattle.record_view.specs.Records.{Meaning}
 use Rattle.record_view.specs.declared.link.Link.{Link}
 use Rattle.store_directory.specs.Options.{◌>>=◌, given}
-use Rattle.store_load.specs.Extents.{Extent, extent_to, extents_from, extents_to, pages_in, read_extent}
-use Rattle.store_load.specs.Loading.{OnUnlawful, Progress, is_last, load_extents, take_records}
+use Rattle.store_directory.specs.declared.row.Row.{Row}
+use Rattle.store_load.specs.Extents.{Extent, end_of, extent_to, extents_from, extents_of, extents_to, last_of, pages_in, read_extent}
+use Rattle.store_load.specs.Frame.{pages_read}
+use Rattle.store_load.specs.Loaded.{used_in}
+use Rattle.store_load.specs.Loading.{OnUnlawful, Progress, UsedBefore, is_last, load_extents, take_records}
 use Rattle.store_load.specs.declared.stop.LoadStop.{LoadStop}
 use Rattle.store_load.specs.declared.stop.LoadStop.TheVariants.{Flash, Unlawful, NoMemory}
 use Rattle.store_load.specs.declared.loading.Limits.{Limits}
@@ -109,3 +112,24 @@ nothing_left limits least image [] (suc at) progress h = refl
 nothing_left limits least image (extent ∷ extents) zero progress h = absurd (omega arith)
 nothing_left limits least image (extent ∷ extents) (suc at) progress h =
     nothing_left limits least image extents at progress (omega arith)
+
+-- the pages of the extent in front of the next place
+pub used_here : (image : ℕ → List ℕ) (extents : List Extent) (at : ℕ) (extent : Extent) (records : List Meaning) (used : ℕ)
+    → slice_get extents at ≡ Some extent → read_extent image extent ≡ Some records → used ≡ pages_in records
+    → UsedBefore image extents (suc at) used
+used_here image extents at extent records used there read is =
+    subst (λ (o : Option Extent). IfSome o (λ (e : Extent). used ≡ pages_read (read_extent image e))) (sym there)
+    (is ∙ ap pages_read (sym read))
+
+-- the extent of the last link
+last_there : (end : ℕ) (link : Link) (links : List Link) → slice_get (extents_from end link links) (length links) ≡ Some (extent_to end (last_of link links))
+last_there end link [] = refl
+last_there end link (next ∷ links) = last_there end next links
+
+-- of all of them
+pub used_last : (image : ℕ → List ℕ) (row : Row) (links : List Link) (used : ℕ)
+    → UsedBefore image (extents_of row links) (length links) used → used ≡ used_in image row links
+used_last image row [] used is = is
+used_last image row (link ∷ links) used is =
+    subst (λ (o : Option Extent). IfSome o (λ (e : Extent). used ≡ pages_read (read_extent image e)))
+    (last_there (end_of row) link links) is

@@ -8,3 +8,4 @@ pub mod Trimmed
 pub mod Frame
 pub mod Moving
 pub mod Loading
+pub mod Loaded

@@ -1,11 +1,12 @@
 -- The index of a store, as its records are loaded one after another.
-use Rattle.std.specs.Prelude.{◌≡◌, ◌≤◌, ⊤, ℕ, zero, suc, ◌+◌, ◌&&◌, ◌||◌, nat_le, Bool, true, false, if◌then◌else◌, List, [], ◌∷◌, length, Option, Some, None, Result, Err}
+use Rattle.std.specs.Prelude.{◌≡◌, ◌≤◌, ⊤, ℕ, zero, suc, ◌+◌, ◌&&◌, ◌||◌, nat_le, Bool, true, false, if◌then◌else◌, List, [], ◌∷◌, length, slice_get, IfSome, Option, Some, None, Result, Err}
 use Rattle.record_view.specs.Records.{Meaning}
 use Rattle.space_packet.specs.Charge.{charge_of}
 use Rattle.store_directory.specs.Options.{◌>>=◌, given}
 use Rattle.time_index.specs.TimeIndex.{TimeIndex, pages_of, with_entry}
 use Rattle.time_index.specs.declared.entry.Entry.{Entry}
 use Rattle.store_load.specs.Extents.{Extent, pages_in, read_extent}
+use Rattle.store_load.specs.Frame.{pages_read}
 use Rattle.store_load.specs.declared.loading.Limits.{Limits}
 use Rattle.store_load.specs.declared.stop.LoadStop.{LoadStop}
 use Rattle.store_load.specs.declared.stop.LoadStop.TheVariants.{Flash, Unlawful}
@@ -101,3 +102,9 @@ load_extents limits least image (extent ∷ extents) progress = do
   next ← take_records limits extent.block 0 records progress
   _ ← given (is_last extents || nat_le least (pages_in records))
   load_extents limits least image extents next
+
+-- The pages that the records of the extent in front of a place use, and 0 in front of the first one.
+abbrev pub UsedBefore : (image : ℕ → List ℕ) → List Extent → (at used : ℕ) → Type 0
+UsedBefore image extents zero used = used ≡ 0
+UsedBefore image extents (suc at) used =
+    IfSome (slice_get extents at) (λ extent. used ≡ pages_read (read_extent image extent))

@@ -1,5 +1,5 @@
 // Laws on the records that a store keeps on an image.
-ghost use Rattle.std.specs.Prelude.{◌≡◌, ◌≤◌, ◌<◌, ◌+◌, ◌^◌, ◌++◌, ◌∷◌, ℕ, List, [], All, Some, drop, length, true};
+ghost use Rattle.std.specs.Prelude.{◌≡◌, ◌≤◌, ◌<◌, ◌+◌, ◌^◌, ◌++◌, ◌∷◌, ℕ, List, [], All, None, Some, drop, length, map, true};
 ghost use Rattle.board.specs.Flash.{IsContent};
 ghost use Rattle.space_packet.specs.Charge.{charge_of};
 ghost use Rattle.record_view.specs.Records.{Meaning, record_at};
@@ -12,7 +12,9 @@ ghost use Rattle.store_load.specs.Extents.{end_of, extent_to, last_of, pages_in,
 ghost use Rattle.store_load.specs.Frame.{in_store};
 ghost use Rattle.store_load.specs.Keeping.{IsInDevice, Keeps};
 ghost use Rattle.store_load.specs.Kept.{kept_of};
+ghost use Rattle.store_load.specs.Loaded.{index_of, seen, shown};
 ghost use Rattle.store_load.specs.Moving.{GoesOn, IsNext, last_extent, used_by};
+ghost use Rattle.time_index.specs.TimeIndex.{TimeIndex};
 
 /// A store keeps its records on each image that has the same pages of them, and then these are
 /// the pages that it is read from there too. All other pages may hold anything.
@@ -36,6 +38,17 @@ pub fn rows_count_their_records()
     ensures { (rule : Rule) (blocks : ℕ) (image : ℕ → List ℕ) (now : ℕ) (row : Row)
         (links : List Link) (records : List Meaning)
         → Keeps rule blocks image now row links records → length records ≡ row.count }
+{}
+
+/// A store has an index exactly where it keeps records, and the index lists them: their stamps and
+/// the lengths of their packets, in order.
+pub fn indexes_list_the_kept_records()
+    ensures listed { (rule : Rule) (image : ℕ → List ℕ) (now : ℕ) (row : Row) (links : List Link)
+        (index : TimeIndex) → index_of rule image now row links ≡ Some index
+        → (records : List Meaning) × (kept_of rule image now row links ≡ Some records)
+        × (map seen index.entries ≡ map shown records) }
+    ensures none { (rule : Rule) (image : ℕ → List ℕ) (now : ℕ) (row : Row) (links : List Link)
+        → index_of rule image now row links ≡ None → kept_of rule image now row links ≡ None }
 {}
 
 /// A row with a later first number, and the links that its Put leaves, keep the records without

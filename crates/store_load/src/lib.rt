@@ -7,13 +7,18 @@ mod link_loading;
 mod loading;
 mod rule;
 mod stop;
+mod store_loading;
 
 pub use claiming::claim;
 pub use laws::{
-    blocks_are_begun, fronts_go, last_blocks_may_be_swapped, records_are_appended,
-    rows_count_their_records, stores_are_read_from_their_records,
+    blocks_are_begun, fronts_go, indexes_list_the_kept_records, last_blocks_may_be_swapped,
+    records_are_appended, rows_count_their_records, stores_are_read_from_their_records,
 };
 pub use rule::Rule;
+pub use stop::LoadStop;
+pub use store_loading::{Loaded, load_store};
 
+#[cfg(test)]
+mod load_tests;
 #[cfg(test)]
 mod tests;

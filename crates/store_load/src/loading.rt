@@ -1,5 +1,5 @@
 // The index of a store, as its records are loaded one after another.
-ghost use Rattle.std.specs.Prelude.{◌≡◌, ◌+◌, ◌<◌, ◌≤◌, ◌^◌, ◌&&◌, nat_le, None, Some, length, IsFalse, IsTrue};
+ghost use Rattle.std.specs.Prelude.{◌≡◌, [], ◌+◌, ◌<◌, ◌≤◌, ◌^◌, ◌&&◌, nat_le, None, Some, length, IsFalse, IsTrue};
 ghost use Rattle.record_view.specs.Records.{records_left};
 ghost use Rattle.record_view.specs.View.{meaning_of};
 ghost use Rattle.store_load.specs.Extents.{pages_in};
@@ -44,6 +44,25 @@ impl Model for Loading {
 }
 
 impl Loading {
+    /// An index without an entry, in front of so many dead records.
+    pub(crate) fn new(index: Index, dead: u32) -> Loading
+        requires { index.entries ≡ [] }
+        ensures { result ≡ record { index = index; dead = dead; last = 0 } }
+    {
+        Loading {
+            index,
+            dead,
+            last: 0,
+        }
+    }
+
+    /// The index.
+    pub(crate) fn into_index(self) -> Index
+        ensures { result ≡ self.index }
+    {
+        self.index
+    }
+
     // Keeps a record that the block has at a page, or passes over it if it is dead. Whether the
     // limits allow it.
     fn take(&mut self, view: &RecordView<'_>, block: u16, page: u32, limits: Limits) -> bool

@@ -10,7 +10,7 @@ use std::alloc::{AllocError, Global};
 use std::test::Fail;
 use store_directory::{ApplyFault, Change, Directory, Row};
 
-const ROW: Row = Row {
+pub(crate) const ROW: Row = Row {
     identifier: 1,
     kind: StoreKind::Circular,
     size: 240,

@@ -1,12 +1,14 @@
-use Rattle.std.proofs.Common.{◌≡◌, ◌+◌, ◌<◌, ◌||◌, nat_le, suc, length, drop, Err, Bool, true, false, refl, sym, ◌∙◌, ap, subst, arith, ℕ}
+use Rattle.std.proofs.Common.{◌≡◌, ◌+◌, ◌<◌, ◌||◌, nat_le, suc, length, drop, Err, Some, Bool, true, false, refl, sym, ◌∙◌, ap, subst, arith, ℕ}
 use Rattle.board.specs.Device.{Device}
 use Rattle.board.specs.Flash.{Flash}
 use Rattle.board.proofs.Reading.{reads_most, reads_none, reads_on}
 use Rattle.board.proofs.Works.{tells_too}
 use Rattle.record_view.specs.declared.link.Link.{Link}
 use Rattle.store_load.specs.Extents.{Extent, end_of, extents_of, pages_in, read_extent}
-use Rattle.store_load.specs.Loading.{is_last, load_extents}
-use Rattle.store_load.proofs.LinkWalks.{all_at, as_many, extents_at, last_at, next_loaded, not_filled, not_loaded, nothing_left, on_unlawful}
+use Rattle.store_load.specs.Loading.{UsedBefore, is_last, load_extents}
+use Rattle.store_load.proofs.LinkWalks.{all_at, as_many, extents_at, last_at, next_loaded, not_filled, not_loaded, nothing_left, on_unlawful, used_here}
+use Rattle.store_load.proofs.Takings.{takes_records}
+use Rattle.time_index.specs.TimeIndex.{TimeIndex}
 use Rattle.store_load.proofs.link_loading.load_links.Goals as goal
 
 pub loop-at-init : goal.loop-at-init
@@ -15,6 +17,10 @@ loop-at-init g c =
     let old = c.args.board.now in
     record {
       rest = λ told. refl;
+      used_is = λ told. refl;
+      within = omega arith;
+      first = refl;
+      pages = λ h. h;
       size = c.requires.size;
       reads = reads_none means old (λ image told left. g.met.B.Board.images_now old image told left);
       no_fault = refl;
@@ -85,6 +91,7 @@ loop-at-preserved g c =
     let part = c.extent_at-count.result in
     let extent : Extent = record { block = part.0.block; first = part.0.first; count = part.1 } in
     let loaded = c.in-Ok.ensures.loaded in
+    let takes = takes_records c.args.limits extent.block 0 loaded.records c.loop-at.loading c.load_link.new.loading loaded.taken in
     let many = as_many (end_of c.args.row.now) c.args.links.now in
     let more : suc c.loop-at.at ≡ c.loop-at.at + 1 = omega arith in
     let filled : (is_last (drop (suc c.loop-at.at) extents) || nat_le c.args.least (pages_in loaded.records)) ≡ true =
@@ -102,6 +109,15 @@ loop-at-preserved g c =
           (sym (ap (λ (f : Flash). read_extent f.content extent) flash) ∙ loaded.read (tells_too so_far.reads.same told))
           loaded.taken filled)
           ∙ so_far.rest told;
+      used_is = λ told.
+          let flash = (so_far.reads.stays told).flash in
+          let read : read_extent (means.flash old).content extent ≡ Some loaded.records =
+          sym (ap (λ (f : Flash). read_extent f.content extent) flash) ∙ loaded.read (tells_too so_far.reads.same told) in
+          subst (λ n. UsedBefore (means.flash old).content extents n c.in-Ok.pages) more
+          (used_here (means.flash old).content extents c.loop-at.at extent loaded.records c.in-Ok.pages c.extent_at-count.ensures.extent read loaded.used_is);
+      within = loaded.within;
+      first = ap (λ (x : TimeIndex). x.first) takes.index_is ∙ so_far.first;
+      pages = λ h. takes.fits (so_far.pages h);
       size = c.in-Ok.ensures.size;
       reads =
           reads_most means old c.load_link.new.board
@@ -109,3 +125,11 @@ loop-at-preserved g c =
           (omega arith);
       no_fault = c.in-Ok.ensures.no_fault ∙ so_far.no_fault;
     }
+
+pub returns-clause-used : goal.returns-clause-used
+returns-clause-used g c = λ told.
+    let means = g.B.Board.means in
+    let links = c.args.links.now in
+    let extents = extents_of c.args.row.now links in
+    let content = (means.flash c.args.board.now).content in
+    subst (λ n. UsedBefore content extents n c.loop-at.used) (omega (arith, c.loop-at-test.false, c.loop-at.far-at)) (c.loop-at.invariant.used_is told)
