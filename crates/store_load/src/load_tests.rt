@@ -70,7 +70,6 @@ fn loaded(
 
 #[test]
 fn a_store_is_loaded_if_its_records_are_there(rt: HostRuntime) -> Result<(), Fail> {
-    let mut board = device(rt.alloc())?;
     // the row's first number and count, the link's first number, the time, and the store's packets
     let cases = [
         (6, 2, 5, 5, Some(2)),
@@ -88,6 +87,7 @@ fn a_store_is_loaded_if_its_records_are_there(rt: HostRuntime) -> Result<(), Fai
         (6, 0, 5, 5, None),
     ];
     for (first, count, begin, now, packets) in cases {
+        let mut board = device(rt.alloc())?;
         let row = Row {
             first,
             count,
