@@ -1,0 +1,4 @@
+pub mod Kept
+pub mod Moves
+pub mod Places
+pub mod Trails
