@@ -7,7 +7,7 @@ use Rattle.pst_model.specs.Command.{Command}
 use Rattle.pst_model.specs.Table.{Store, Table}
 use Rattle.pst_laws.specs.Kept.{ArePassed, AreRising, IsOpenKept, IsPassedAt}
 use Rattle.pst_laws.specs.Moves.{Judge, Move, moves_along, run_by}
-use Rattle.pst_laws.specs.Places.{Aborting, Appearing, Going, GoingOn, Leaving, Moved, OpenSending, Place, RangeSending, Starting, place_in, place_of}
+use Rattle.pst_laws.specs.Places.{Aborting, Appearing, Going, GoingOn, Leaving, Moved, OpenSending, Place, RangeSending, Starting, Taking, place_in, place_of}
 use Rattle.pst_laws.specs.Trails.{OpenTrail, Trail, follow_all, followed, trail_at, with_passed}
 use Rattle.pst_laws.proofs.Followed.{along}
 use Rattle.pst_laws.proofs.Numbers.{none_passed, none_rising, passed_more, passed_one, rising_push}
@@ -72,13 +72,14 @@ ended gone behind trail at = record {
 
 moved : (move : Move) (before behind : Option Place) (trail : Trail) → Moved move before behind → Holds trail before → Holds (followed move trail) behind
 moved _ _ _ trail Appearing holds = goes_on 0 0 0 (omega arith) (omega arith)
-moved _ _ _ trail (Going behind) holds = ended trail.gone behind trail.ahead holds
-moved _ _ _ trail (Leaving count behind range) holds = left trail.gone count behind trail.ahead holds
-moved _ _ _ trail (Starting behind next end) holds = holds
-moved _ _ _ trail (Aborting behind range) holds = holds
-moved _ _ _ trail (GoingOn behind position range) holds = goes_on trail.gone position (trail.gone + position) (omega arith) (omega arith)
-moved _ _ _ trail (RangeSending behind next end) holds = holds
-moved _ _ _ trail (OpenSending behind range) holds = sent_one trail.gone behind trail.ahead holds
+moved _ _ _ trail (Going place none) holds = ended trail.gone place.behind trail.ahead holds
+moved _ _ _ trail (Leaving count place le) holds = left trail.gone count place.behind trail.ahead holds
+moved _ _ _ trail (Taking more place) holds = holds
+moved _ _ _ trail (Starting next end place none) holds = holds
+moved _ _ _ trail (Aborting place) holds = holds
+moved _ _ _ trail (GoingOn position place) holds = goes_on trail.gone position (trail.gone + position) (omega arith) (omega arith)
+moved _ _ _ trail (RangeSending next end place here) holds = holds
+moved _ _ _ trail (OpenSending place) holds = sent_one trail.gone place.behind trail.ahead holds
 
 begun : (place : Option Place) → Holds (trail_at place) place
 begun None = ended 0 0 _ (goes_on 0 0 0 (omega arith) (omega arith))

@@ -2,7 +2,8 @@
 use Rattle.std.proofs.Common.{◌≡◌, ℕ, Bool, true, false, List, [], ◌∷◌, ◌++◌, Option, Some, None, Result, Ok, Err, refl, sym, ◌∙◌, ap, subst}
 use Rattle.std.proofs.lemmas.Bool.{cond_both, cond-false, cond-true, eqb-true}
 use Rattle.std.proofs.lemmas.List.Folds.{find-append}
-use Rattle.std.specs.Prelude.{◌==◌, IfOk, find, is_some, not, if◌then◌else◌}
+use Rattle.std.proofs.lemmas.List.Sums.{count_by-le-length}
+use Rattle.std.specs.Prelude.{◌==◌, IfOk, find, is_some, nat_le, not, if◌then◌else◌}
 use Rattle.std.specs.Option.{option_or}
 use Rattle.control_defs.specs.declared.instructions.Instruction.{Instruction}
 use Rattle.control_defs.specs.declared.instructions.Instruction.TheVariants.{ForwardAdd, ForwardDelete, ForwardReport, Enable, Disable, AddTypes, DeleteTypes, ReportTypes, StartRange, DeleteUpTo, Summary, OpenFrom, Resume, Suspend, Abort, Status, Create, Remove, Configuration, Copy, Resize, ToCircular, ToBounded, Channel}
@@ -10,16 +11,16 @@ use Rattle.control_defs.specs.declared.instructions.StoreKind.{StoreKind}
 use Rattle.control_defs.specs.declared.instructions.StoreKind.TheVariants.{Circular, Bounded}
 use Rattle.control_defs.specs.declared.patterns.Pattern.{Pattern}
 use Rattle.pst_model.specs.Changes.{change_store, is_named, of_store, where_found, with_changed, with_store}
-use Rattle.pst_model.specs.Copies.{copy, copy_checks, take_window}
+use Rattle.pst_model.specs.Copies.{copy, copy_checks, is_empty, take_window}
 use Rattle.pst_model.specs.Failures.{already_so, unless}
 use Rattle.pst_model.specs.Instructions.{add_pattern, delete_pattern, instruct, set_open, set_storage, with_forward, with_types}
-use Rattle.pst_model.specs.Ranges.{abort_checks, abort_range, count_below, count_up_to, delete_checks, delete_up_to, open_checks, open_from, range_between, start_checks, start_range}
+use Rattle.pst_model.specs.Ranges.{abort_checks, abort_range, count_below, count_up_to, delete_checks, delete_up_to, open_checks, open_from, start_checks, start_range, window_of}
 use Rattle.pst_model.specs.Rules.{has_range}
 use Rattle.pst_model.specs.Stores.{channel_checks, create, create_checks, kind_checks, new_store, remove, resize, resize_checks, rest_checks, set_channel, set_kind, without_store}
 use Rattle.pst_model.specs.Table.{Store, Stored, Table}
 use Rattle.pst_model.proofs.Effects.{Passed}
-use Rattle.pst_laws.specs.Moves.{Aborts, Appears, Goes, GoesOn, Leaves, Move, Starts, if_named, item_moves, packets_in, store_named}
-use Rattle.pst_laws.specs.Places.{Aborting, Appearing, Going, GoingOn, Leaving, Moved, MovedBy, Place, Starting, Still, Then, place_in, place_of}
+use Rattle.pst_laws.specs.Moves.{Aborts, Appears, Goes, GoesOn, Leaves, Move, Starts, Takes, if_named, item_moves, packets_in, packets_of}
+use Rattle.pst_laws.specs.Places.{Aborting, Appearing, Going, GoingOn, Leaving, Moved, MovedBy, Place, Starting, Still, Taking, Then, place_in, place_of}
 use Rattle.pst_laws.proofs.Found.{changed_other, changed_own}
 use Rattle.pst_laws.proofs.Without.{without_other, without_own}
 
@@ -49,6 +50,14 @@ none_found (Some store) is = absurd cc
 or_none : (found : Option Store) → option_or found None ≡ found
 or_none (Some store) = refl
 or_none None = refl
+
+no_packets : (packets : List Stored) → not (is_empty packets) ≡ false → packets ≡ []
+no_packets [] is = refl
+no_packets (stored ∷ packets) is = absurd cc
+
+-- the place of a store
+abbrev pub at : Store → Place
+at store = record { packets = store.packets; behind = store.behind; range = store.range }
 
 -- a change that leaves the places as they are
 pub record IsQuiet (store next : Store) : Type 0 where
@@ -94,14 +103,14 @@ module _ (blocks identifier : ℕ) (table : Table) where
       on_changed other (Leads []) (IsQuiet store) (change store) (λ next quiet. quiet_at other store next is quiet) (holds store))
 
   abbrev named_moves : (other : ℕ) → (List Stored → Move) → List Move
-  named_moves other move = if_named identifier other (move (packets_in (store_named identifier table)))
+  named_moves other move = if_named identifier other (move (packets_of identifier table))
 
   moved_at : (other : ℕ) (move : List Stored → Move) (store next : Store) → find (is_named other) table.stores ≡ Some store → IsMoved move store next → Leads (named_moves other move) (with_next other next)
   moved_at other move store next found moved = by (other == identifier) refl
     where
-      by : (named : Bool) → (other == identifier) ≡ named → MovedBy (if named then move (packets_in (store_named identifier table)) ∷ [] else []) (place_of identifier table) (place_of identifier (with_next other next))
+      by : (named : Bool) → (other == identifier) ≡ named → MovedBy (if named then move (packets_of identifier table) ∷ [] else []) (place_of identifier table) (place_of identifier (with_next other next))
       by true named =
-          subst (λ (n : ℕ). MovedBy (move (packets_in (store_named n table)) ∷ []) (place_of n table) (place_of n (with_next other next))) (eqb-true other identifier named)
+          subst (λ (n : ℕ). MovedBy (move (packets_of n table) ∷ []) (place_of n table) (place_of n (with_next other next))) (eqb-true other identifier named)
           (subst (λ (s : Option Store). MovedBy (move (packets_in s) ∷ []) (place_in s) (place_of other (with_next other next))) (sym found)
           (subst (λ (s : Option Store). MovedBy (move store.packets ∷ []) (place_in (Some store)) (place_in s)) (sym (changed_own other store next moved.named table.stores found))
           (once (move store.packets) _ _ moved.moved)))
@@ -140,36 +149,39 @@ module _ (blocks identifier : ℕ) (table : Table) where
   sets_channel : (channel : ℕ) (store : Store) → IfOk (set_channel channel store) (IsQuiet store)
   sets_channel channel store = behind_checks (IsQuiet store) (channel_checks channel store) _ (λ passed. record { named = refl; placed = refl })
 
-  takes_window : (source : Store) (t1 t2 : ℕ) (store : Store) → IfOk (take_window source t1 t2 store) (IsQuiet store)
-  takes_window source t1 t2 store = behind_checks (IsQuiet store) (copy_checks source t1 t2 store) _ (λ passed. record { named = refl; placed = refl })
+  takes_window : (source : Store) (t1 t2 : ℕ) (store : Store) → IfOk (take_window source t1 t2 store) (IsMoved (λ packets. Takes (window_of t1 t2 source.packets)) store)
+  takes_window source t1 t2 store = behind_checks (IsMoved (λ packets. Takes (window_of t1 t2 source.packets)) store) (copy_checks source t1 t2 store) _ (λ passed.
+      let window = window_of t1 t2 source.packets in
+      record {
+        named = refl;
+        moved = subst (λ (packets : List Stored). Moved (Takes window) (place_in (Some store)) (Some (record { packets = packets ++ window; behind = store.behind; range = store.range })))
+            (no_packets store.packets passed.1.1.0) (Taking window (at store));
+      })
 
   starts : (t1 t2 : ℕ) (store : Store) → IfOk (start_range t1 t2 store) (IsMoved (λ packets. Starts (count_below t1 packets) (count_up_to t2 packets)) store)
   starts t1 t2 store = behind_checks (IsMoved (λ packets. Starts (count_below t1 packets) (count_up_to t2 packets)) store) (start_checks t1 t2 store) _ (λ passed.
-      let next = count_below t1 store.packets in
-      let end = count_up_to t2 store.packets in
-      record {
-        named = refl;
-        moved = subst (λ (range : Option (ℕ × ℕ)). Moved (Starts next end) (Some (record { behind = store.behind; range = range })) (Some (record { behind = store.behind; range = range_between next end })))
-            (sym (no_range store.range passed.1.0)) (Starting store.behind next end);
-      })
+      record { named = refl; moved = Starting (count_below t1 store.packets) (count_up_to t2 store.packets) (at store) (no_range store.range passed.1.0) })
 
   aborts : (store : Store) → IfOk (abort_range store) (IsMoved (λ packets. Aborts) store)
-  aborts store = behind_checks (IsMoved (λ packets. Aborts) store) (abort_checks store) _ (λ passed. record { named = refl; moved = Aborting store.behind store.range })
+  aborts store = behind_checks (IsMoved (λ packets. Aborts) store) (abort_checks store) _ (λ passed. record { named = refl; moved = Aborting (at store) })
 
   deletes : (t : ℕ) (store : Store) → IfOk (delete_up_to t store) (IsMoved (λ packets. Leaves (count_up_to t packets)) store)
-  deletes t store = behind_checks (IsMoved (λ packets. Leaves (count_up_to t packets)) store) (delete_checks store) _ (λ passed. record { named = refl; moved = Leaving (count_up_to t store.packets) store.behind store.range })
+  deletes t store = behind_checks (IsMoved (λ packets. Leaves (count_up_to t packets)) store) (delete_checks store) _ (λ passed.
+      record { named = refl; moved = Leaving (count_up_to t store.packets) (at store) (count_by-le-length (λ (stored : Stored). nat_le stored.time t) store.packets) })
 
   goes_on : (t : ℕ) (store : Store) → IfOk (open_from t store) (IsMoved (λ packets. GoesOn (count_below t packets)) store)
-  goes_on t store = behind_checks (IsMoved (λ packets. GoesOn (count_below t packets)) store) (open_checks store) _ (λ passed. record { named = refl; moved = GoingOn store.behind (count_below t store.packets) store.range })
+  goes_on t store = behind_checks (IsMoved (λ packets. GoesOn (count_below t packets)) store) (open_checks store) _ (λ passed. record { named = refl; moved = GoingOn (count_below t store.packets) (at store) })
 
-  copies : (from to t1 t2 : ℕ) → IfOk (copy from to t1 t2 table) (Leads [])
-  copies from to t1 t2 = on_found from (Leads []) _ (λ source is. quiet_change to (take_window source t1 t2) (takes_window source t1 t2))
+  copies : (from to t1 t2 : ℕ) → IfOk (copy from to t1 t2 table) (Leads (if_named identifier to (Takes (window_of t1 t2 (packets_of from table)))))
+  copies from to t1 t2 = on_found from (Leads (if_named identifier to (Takes (window_of t1 t2 (packets_of from table))))) _ (λ source is.
+      subst (λ (found : Option Store). IfOk (change_store to table (take_window source t1 t2)) (Leads (if_named identifier to (Takes (window_of t1 t2 (packets_in found)))))) (sym is)
+      (moved_change to (λ packets. Takes (window_of t1 t2 source.packets)) (take_window source t1 t2) (takes_window source t1 t2)))
 
   abbrev with_one_more : Store → Table
   with_one_more store = record table { stores = table.stores ++ store ∷ [] }
 
-  one_more : (store : Store) → store.behind ≡ 0 → store.range ≡ None → is_some (find (is_named store.identifier) table.stores) ≡ false → Leads (if_named identifier store.identifier Appears) (with_one_more store)
-  one_more store none_passed none_ranged new = by (store.identifier == identifier) refl
+  one_more : (store : Store) → at store ≡ record { packets = []; behind = 0; range = None } → is_some (find (is_named store.identifier) table.stores) ≡ false → Leads (if_named identifier store.identifier Appears) (with_one_more store)
+  one_more store fresh new = by (store.identifier == identifier) refl
     where
       by : (named : Bool) → (store.identifier == identifier) ≡ named → MovedBy (if named then Appears ∷ [] else []) (place_of identifier table) (place_of identifier (with_one_more store))
       by true named =
@@ -177,9 +189,8 @@ module _ (blocks identifier : ℕ) (table : Table) where
           let last : find (is_named identifier) (table.stores ++ store ∷ []) ≡ Some store =
           find-append (is_named identifier) table.stores (store ∷ []) ∙ ap (λ (found : Option Store). option_or found (find (is_named identifier) (store ∷ []))) none
           ∙ cond-true (is_named identifier store) (Some store) None named in
-          let place : place_in (Some store) ≡ Some (record { behind = 0; range = None }) = ap (λ (n : ℕ). Some (record { behind = n; range = store.range })) none_passed ∙ ap (λ (r : Option (ℕ × ℕ)). Some (record { behind = 0; range = r })) none_ranged in
           subst (λ (p : Option Place). MovedBy (Appears ∷ []) p (place_of identifier (with_one_more store))) (sym (ap place_in none))
-          (subst (λ (p : Option Place). MovedBy (Appears ∷ []) None p) (sym (ap place_in last ∙ place)) (once Appears _ _ Appearing))
+          (subst (λ (p : Option Place). MovedBy (Appears ∷ []) None p) (sym (ap place_in last ∙ ap (λ (p : Place). Some p) fresh)) (once Appears _ _ Appearing))
       by false named =
           let rest : find (is_named identifier) (table.stores ++ store ∷ []) ≡ find (is_named identifier) table.stores =
           find-append (is_named identifier) table.stores (store ∷ []) ∙ ap (option_or (find (is_named identifier) table.stores)) (cond-false (is_named identifier store) (Some store) None named)
@@ -188,7 +199,7 @@ module _ (blocks identifier : ℕ) (table : Table) where
 
   creates : (other : ℕ) (kind : StoreKind) (size channel : ℕ) → IfOk (create blocks (new_store other kind size channel) table) (Leads (if_named identifier other Appears))
   creates other kind size channel =
-      behind_checks (Leads (if_named identifier other Appears)) (create_checks blocks (new_store other kind size channel) table.stores) _ (λ passed. one_more (new_store other kind size channel) refl refl passed.0)
+      behind_checks (Leads (if_named identifier other Appears)) (create_checks blocks (new_store other kind size channel) table.stores) _ (λ passed. one_more (new_store other kind size channel) refl passed.0)
 
   abbrev without : (other : ℕ) → Table
   without other = record table { stores = without_store other table.stores }
@@ -198,19 +209,17 @@ module _ (blocks identifier : ℕ) (table : Table) where
     where
       by : (named : Bool) → (other == identifier) ≡ named → MovedBy (if named then Goes ∷ [] else []) (place_of identifier table) (place_of identifier (without other))
       by true named =
-          let before : place_of other table ≡ Some (record { behind = store.behind; range = None }) =
-          ap place_in found ∙ ap (λ (range : Option (ℕ × ℕ)). Some (record { behind = store.behind; range = range })) (no_range store.range rests) in
           subst (λ (n : ℕ). MovedBy (Goes ∷ []) (place_of n table) (place_of n (without other))) (eqb-true other identifier named)
-          (subst (λ (p : Option Place). MovedBy (Goes ∷ []) p (place_of other (without other))) (sym before)
-          (subst (λ (p : Option Place). MovedBy (Goes ∷ []) (Some (record { behind = store.behind; range = None })) p) (sym (ap place_in (without_own other table.stores)))
-          (once Goes _ _ (Going store.behind))))
+          (subst (λ (p : Option Place). MovedBy (Goes ∷ []) p (place_of other (without other))) (sym (ap place_in found))
+          (subst (λ (p : Option Place). MovedBy (Goes ∷ []) (Some (at store)) p) (sym (ap place_in (without_own other table.stores)))
+          (once Goes _ _ (Going (at store) (no_range store.range rests)))))
       by false named = at_rest _ _ (sym (ap place_in (without_other identifier other named table.stores)))
 
   removes : (other : ℕ) → IfOk (remove other table) (Leads (if_named identifier other Goes))
   removes other = on_found other (Leads (if_named identifier other Goes)) _ (λ store is. behind_checks (Leads (if_named identifier other Goes)) (rest_checks store) _ (λ passed. one_less other store is passed.1.1.0))
 
   -- an instruction that takes effect leads from the place before to the one behind by its moves
-  pub item_leads : (item : Instruction) → IfOk (instruct blocks item table) (λ (next : Table). MovedBy (item_moves identifier item (packets_in (store_named identifier table))) (place_of identifier table) (place_of identifier next))
+  pub item_leads : (item : Instruction) → IfOk (instruct blocks item table) (λ (next : Table). MovedBy (item_moves identifier item table) (place_of identifier table) (place_of identifier next))
   item_leads (ForwardAdd pattern) = forwards (add_pattern pattern table.forward)
   item_leads (ForwardDelete pattern) = forwards (delete_pattern pattern table.forward)
   item_leads ForwardReport = Still (place_of identifier table)

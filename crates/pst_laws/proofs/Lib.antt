@@ -1,6 +1,7 @@
 pub mod Ahead
 pub mod Followed
 pub mod Found
+pub mod Granted
 pub mod Items
 pub mod Numbers
 pub mod Placed

@@ -1,5 +1,5 @@
 -- The moves of a command lead from the place before it to the one behind it.
-use Rattle.std.proofs.Common.{◌≡◌, ℕ, ◌+◌, Bool, true, false, List, [], ◌∷◌, ◌++◌, Option, Some, None, Result, Ok, Err, length, refl, sym, ◌∙◌, ap, subst}
+use Rattle.std.proofs.Common.{◌≡◌, ◌≤◌, ℕ, zero, suc, ◌+◌, arith, Bool, true, false, List, [], ◌∷◌, ◌++◌, Option, Some, None, Result, Ok, Err, length, refl, sym, ◌∙◌, ap, subst}
 use Rattle.std.proofs.lemmas.Bool.{cond_both, cond-false, cond-true}
 use Rattle.std.specs.Option.{option_map}
 use Rattle.std.specs.Prelude.{◌==◌, IfOk, find, is_some, map, max, if◌then◌else◌}
@@ -13,16 +13,17 @@ use Rattle.pst_model.specs.Arrivals.{arrive, forwarded_on, is_offered, offer, of
 use Rattle.pst_model.specs.Changes.{is_named}
 use Rattle.pst_model.specs.Command.{Command, Arrival, Request, Grant}
 use Rattle.pst_model.specs.Instructions.{instruct}
+use Rattle.pst_model.specs.Least.{least}
 use Rattle.pst_model.specs.Replies.{behind_outputs}
 use Rattle.pst_model.specs.Requests.{items_in}
-use Rattle.pst_model.specs.Rules.{Put, Refused, Step, Taken, at_first, behind_put, free_of, grant_open, grant_range, has_ahead, has_range, is_refused, put, range_next, range_sent, to_drop}
-use Rattle.pst_model.specs.Table.{Store, Stored, Table}
+use Rattle.pst_model.specs.Rules.{Put, Refused, Step, Taken, at_first, behind_put, free_of, grant_open, grant_range, has_ahead, has_range, has_room, is_refused, put, range_next, range_sent, to_drop}
+use Rattle.pst_model.specs.Table.{Store, Stored, Table, drop_front}
 use Rattle.pst_model.proofs.Shapes.{found_passes}
 use Rattle.pst_model.proofs.StoresKept.{behind_packet}
-use Rattle.pst_laws.specs.Moves.{Judge, Leaves, Move, OpenSends, RangeSends, arrival_moves, is_first, item_moves, items_moves, moves_along, moves_by, moves_of, offer_moves, open_moves, packets_in, put_moves, range_moves, request_moves, run_by, step_by, store_named}
-use Rattle.pst_laws.specs.Places.{Halted, Leaving, Moved, MovedAlong, MovedBy, Onward, OpenSending, Place, RangeSending, Still, Then, place_in, place_of}
+use Rattle.pst_laws.specs.Moves.{Judge, Leaves, Move, OpenSends, RangeSends, Takes, arrival_moves, is_first, item_moves, items_moves, moves_along, moves_by, moves_of, offer_moves, open_moves, put_moves, range_moves, request_moves, run_by, step_by, store_named}
+use Rattle.pst_laws.specs.Places.{Halted, Leaving, Moved, MovedAlong, MovedBy, Onward, OpenSending, Place, RangeSending, Still, Taking, Then, place_in, place_of}
 use Rattle.pst_laws.proofs.Found.{IsHit, hit, missed}
-use Rattle.pst_laws.proofs.Items.{at_rest, item_leads, once}
+use Rattle.pst_laws.proofs.Items.{at, at_rest, item_leads, once}
 
 -- moves one behind another
 moved-append : (xs ys : List Move) (before between behind : Option Place) → MovedBy xs before between → MovedBy ys between behind → MovedBy (xs ++ ys) before behind
@@ -45,6 +46,12 @@ mapped identifier change same (first ∷ stores) store is = by (is_named identif
         cond-false (is_named identifier (change first)) _ _ (ap (λ (n : ℕ). n == identifier) (same first) ∙ named)
         ∙ rest (sym (cond-false (is_named identifier first) (Some first) (find (is_named identifier) stores) named) ∙ is)
 
+least-le : (test : ℕ → Bool) (bound : ℕ) → least test bound ≤ bound
+least-le test zero = omega arith
+least-le test (suc bound) =
+    cond_both (test zero) zero (suc (least (λ n. test (suc n)) bound)) (λ n. n ≤ suc bound) (λ passes. omega arith)
+    (λ fails. let rest = least-le (λ n. test (suc n)) bound in omega (arith, rest))
+
 -- an arriving packet
 put_named : (stored : Stored) (store : Store) → (behind_put store (put store stored)).identifier ≡ store.identifier
 put_named stored store =
@@ -56,20 +63,20 @@ offered_named stored store =
     cond_both (is_offered stored.octets store) (behind_put store (put store stored)) store (λ (s : Store). s.identifier ≡ store.identifier) (λ taken. put_named stored store) (λ other. refl)
 
 put_leads : (stored : Stored) (store : Store)
-    → MovedBy (put_moves (to_drop store (charge_of (length stored.octets))) (put store stored)) (place_in (Some store)) (place_in (Some (behind_put store (put store stored))))
+    → MovedBy (put_moves stored (to_drop store (charge_of (length stored.octets))) (put store stored)) (place_in (Some store)) (place_in (Some (behind_put store (put store stored))))
 put_leads stored store =
     let need = charge_of (length stored.octets) in
     let leaving = to_drop store need in
     cond_both (is_refused store need) (Refused need (free_of store)) (Taken (behind_packet store stored))
-    (λ result. MovedBy (put_moves leaving result) (place_in (Some store)) (place_in (Some (behind_put store result))))
+    (λ result. MovedBy (put_moves stored leaving result) (place_in (Some store)) (place_in (Some (behind_put store result))))
     (λ refused. Still (place_in (Some store)))
-    (λ taken. once (Leaves leaving) _ _ (Leaving leaving store.behind store.range))
+    (λ taken. Then (Leaves leaving) _ _ _ _ (Leaving leaving (at store) (least-le (has_room store need) (length store.packets))) (once (Takes (stored ∷ [])) _ _ (Taking (stored ∷ []) (at (drop_front store leaving)))))
 
 offer_leads : (stored : Stored) (store : Option Store) → MovedBy (offer_moves stored store) (place_in store) (place_in (option_map (offered stored) store))
 offer_leads stored None = Still None
 offer_leads stored (Some store) = by (is_offered stored.octets store)
   where
-    by : (taken : Bool) → MovedBy (if taken then put_moves (to_drop store (charge_of (length stored.octets))) (put store stored) else []) (place_in (Some store))
+    by : (taken : Bool) → MovedBy (if taken then put_moves stored (to_drop store (charge_of (length stored.octets))) (put store stored) else []) (place_in (Some store))
         (place_in (Some (if taken then behind_put store (put store stored) else store)))
     by true = put_leads stored store
     by false = Still (place_in (Some store))
@@ -99,7 +106,7 @@ module _ (blocks number identifier : ℕ) where
   items_lead first (item ∷ items) table = by (instruct blocks item table) (item_leads blocks identifier table item) (items_lead (first + 1) items)
     where
       moves : List Move
-      moves = item_moves identifier item (packets_in (store_named identifier table))
+      moves = item_moves identifier item table
 
       by : (outcome : Result Table ℕ) → IfOk outcome (Leads moves table) → ((next : Table) → Leads (items_moves blocks identifier items next) next (carry_out_from blocks (first + 1) items next).table)
           → Leads (moves_by moves table outcome (items_moves blocks identifier items)) table (carried_by first table outcome (carry_out_from blocks (first + 1) items)).table
@@ -112,10 +119,12 @@ module _ (blocks number identifier : ℕ) where
   request_leads moment packet table None = items_lead 1 (items_in (service_of packet) (subtype_of packet) (data_in packet)) table
 
   -- a grant
-  next_in : (range : Option (ℕ × ℕ)) (behind : ℕ) → is_some range ≡ true
-      → Moved (RangeSends (range_next range)) (Some (record { behind = behind; range = range })) (Some (record { behind = behind; range = range_sent range }))
-  next_in None behind is = absurd cc
-  next_in (Some (next, end)) behind is = RangeSending behind next end
+  next_sent : (place : Place) → is_some place.range ≡ true → Moved (RangeSends (range_next place.range)) (Some place) (Some (record place { range = range_sent place.range }))
+  next_sent place is = by place.range refl is
+    where
+      by : (range : Option (ℕ × ℕ)) → place.range ≡ range → is_some range ≡ true → Moved (RangeSends (range_next place.range)) (Some place) (Some (record place { range = range_sent place.range }))
+      by None none is = absurd cc
+      by (Some (next, end)) here is = subst (λ (n : ℕ). Moved (RangeSends n) (Some place) (Some (record place { range = range_sent place.range }))) (sym (ap range_next here)) (RangeSending next end place here)
 
   module _ (table : Table) where
     granted : (test : Store → Bool) (change : Store → Store) → ((store : Store) → test store ≡ true → (change store).identifier ≡ store.identifier) → (move : Store → Move)
@@ -136,12 +145,12 @@ module _ (blocks number identifier : ℕ) where
 
     open_leads : (found : Option Store) → find has_ahead table.stores ≡ found → Leads (open_moves identifier table found) table (grant_open number table found).table
     open_leads None is = Still (place_of identifier table)
-    open_leads (Some store) is = granted has_ahead (λ store. record store { behind = store.behind + 1 }) (λ store ahead. refl) (λ store. OpenSends store.behind) (λ store ahead. OpenSending store.behind store.range) store is
+    open_leads (Some store) is = granted has_ahead (λ store. record store { behind = store.behind + 1 }) (λ store ahead. refl) (λ store. OpenSends store.behind) (λ store ahead. OpenSending (at store)) store is
 
     range_leads : (found : Option Store) → find has_range table.stores ≡ found → Leads (range_moves identifier table found) table (grant_range number table found).table
     range_leads None is = open_leads (find has_ahead table.stores) refl
     range_leads (Some store) is =
-        granted has_range (λ store. record store { range = range_sent store.range }) (λ store ranged. refl) (λ store. RangeSends (range_next store.range)) (λ store ranged. next_in store.range store.behind ranged) store is
+        granted has_range (λ store. record store { range = range_sent store.range }) (λ store ranged. refl) (λ store. RangeSends (range_next store.range)) (λ store ranged. next_sent (at store) ranged) store is
 
 module _ (judge : Judge) (blocks identifier : ℕ) where
   pub command_leads : (number : ℕ) (command : Command) (table : Table)

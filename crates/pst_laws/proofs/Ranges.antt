@@ -1,5 +1,5 @@
 -- A range retrieval sends its packets in order.
-use Rattle.std.proofs.Common.{◌≡◌, ◌≤◌, ◌<◌, ℕ, ◌+◌, ◌-◌, Bool, true, false, List, [], ◌∷◌, ◌++◌, Option, Some, None, inl, inr, ⊎_elim, length, refl, arith}
+use Rattle.std.proofs.Common.{◌≡◌, ◌≤◌, ◌<◌, ℕ, ◌+◌, ◌-◌, Bool, true, false, List, [], ◌∷◌, ◌++◌, Option, Some, None, inl, inr, ⊎_elim, length, refl, sym, subst, arith}
 use Rattle.std.proofs.lemmas.Bool.{cases_lt, cond_both, ltb-false, ltb-true}
 use Rattle.std.proofs.lemmas.List.Elements.{All-nil, All-push, All-weaker}
 use Rattle.std.specs.Prelude.{◌⊎◌, All, Contains, find, nat_lt}
@@ -12,7 +12,7 @@ use Rattle.pst_model.specs.Table.{Store, Table, range_behind}
 use Rattle.pst_model.proofs.Carried.{found_has}
 use Rattle.pst_laws.specs.Kept.{ArePassed, AreRising, IsAhead, IsFrom, IsRangeKept, range_at}
 use Rattle.pst_laws.specs.Moves.{Judge, Move, moves_along, run_by}
-use Rattle.pst_laws.specs.Places.{Aborting, Appearing, Going, GoingOn, Leaving, Moved, OpenSending, Place, RangeSending, Starting, place_in, place_of}
+use Rattle.pst_laws.specs.Places.{Aborting, Appearing, Going, GoingOn, Leaving, Moved, OpenSending, Place, RangeSending, Starting, Taking, place_in, place_of}
 use Rattle.pst_laws.specs.Trails.{RangeTrail, Trail, follow_all, followed, range_trail, trail_at, with_sent}
 use Rattle.pst_laws.proofs.Followed.{along}
 use Rattle.pst_laws.proofs.Numbers.{none_passed, none_rising, passed_more, passed_one, rising_push}
@@ -94,13 +94,16 @@ nothing_yet = record { rising = none_rising; selected = All-nil (IsFrom 0 0); wa
 
 moved : (move : Move) (before behind : Option Place) (trail : Trail) → Moved move before behind → Holds trail before → Holds (followed move trail) behind
 moved _ _ _ trail Appearing holds = nothing_yet
-moved _ _ _ trail (Going behind) holds = holds
-moved _ _ _ trail (Leaving count behind range) holds = left trail.gone count trail.range range holds
-moved _ _ _ trail (Starting behind next end) holds = started trail.gone next end
-moved _ _ _ trail (Aborting behind range) holds = aborted trail.gone trail.range range holds
-moved _ _ _ trail (GoingOn behind position range) holds = holds
-moved _ _ _ trail (RangeSending behind next end) holds = sent_one trail.gone next end trail.range holds
-moved _ _ _ trail (OpenSending behind range) holds = holds
+moved _ _ _ trail (Going place none) holds = subst (HasSent trail.gone trail.range) none holds
+moved _ _ _ trail (Leaving count place le) holds = left trail.gone count trail.range place.range holds
+moved _ _ _ trail (Taking more place) holds = holds
+moved _ _ _ trail (Starting next end place none) holds = started trail.gone next end
+moved _ _ _ trail (Aborting place) holds = aborted trail.gone trail.range place.range holds
+moved _ _ _ trail (GoingOn position place) holds = holds
+moved _ _ _ trail (RangeSending next end place here) holds =
+    subst (λ (range : Option (ℕ × ℕ)). HasSent trail.gone (with_sent (trail.gone + next) trail.range) (range_sent range)) (sym here)
+    (sent_one trail.gone next end trail.range (subst (HasSent trail.gone trail.range) here holds))
+moved _ _ _ trail (OpenSending place) holds = holds
 
 begun : (store : Option Store) → ((found : Store) → store ≡ Some found → IsRanged found) → Holds (trail_at (place_in store)) (place_in store)
 begun None ranged = nothing_yet

@@ -3,7 +3,7 @@
 use Rattle.std.specs.Prelude.{ℕ, ◌+◌, ◌==◌, ◌&&◌, max, not, Bool, true, false, find, if◌then◌else◌, List, [], ◌∷◌, ◌++◌, length, Option, Some, None, Result, Ok, Err}
 use Rattle.space_packet.specs.Packet.{apid_of}
 use Rattle.control_defs.specs.declared.instructions.Instruction.{Instruction}
-use Rattle.control_defs.specs.declared.instructions.Instruction.TheVariants.{Abort, Create, DeleteUpTo, OpenFrom, Remove, StartRange}
+use Rattle.control_defs.specs.declared.instructions.Instruction.TheVariants.{Abort, Copy, Create, DeleteUpTo, OpenFrom, Remove, StartRange}
 use Rattle.pus_header.specs.Commands.{service_of, subtype_of}
 use Rattle.pst_model.specs.declared.verdicts.Verdict.{Verdict}
 use Rattle.space_packet.specs.Charge.{charge_of}
@@ -12,7 +12,7 @@ use Rattle.pst_model.specs.Arrivals.{arrive, is_offered}
 use Rattle.pst_model.specs.Changes.{is_named}
 use Rattle.pst_model.specs.Command.{Command, Arrival, Request, Grant}
 use Rattle.pst_model.specs.Instructions.{instruct}
-use Rattle.pst_model.specs.Ranges.{count_below, count_up_to}
+use Rattle.pst_model.specs.Ranges.{count_below, count_up_to, window_of}
 use Rattle.pst_model.specs.Replies.{behind_outputs}
 use Rattle.pst_model.specs.Requests.{items_in}
 use Rattle.pst_model.specs.Rules.{Put, Refused, Step, Taken, grant, has_ahead, has_range, put, range_next, to_drop}
@@ -25,6 +25,8 @@ pub data Move : Type 0 where
   Goes : Move
   -- so many packets leave its front
   Leaves : (count : ℕ) → Move
+  -- packets come behind its last one
+  Takes : (packets : List Stored) → Move
   -- a range retrieval starts at the first position, and is to end before the second
   Starts : (next end : ℕ) → Move
   Aborts : Move
@@ -61,17 +63,20 @@ abbrev pub packets_in : Option Store → List Stored
 packets_in None = []
 packets_in (Some store) = store.packets
 
--- behind a packet that a store takes or refuses
-abbrev pub put_moves : (leaving : ℕ) → Put → List Move
-put_moves leaving (Taken next) = Leaves leaving ∷ []
-put_moves leaving (Refused need free) = []
+abbrev pub packets_of : (identifier : ℕ) → Table → List Stored
+packets_of identifier table = packets_in (store_named identifier table)
+
+-- a packet that a store takes behind those that leave, or refuses
+abbrev pub put_moves : Stored → (leaving : ℕ) → Put → List Move
+put_moves stored leaving (Taken next) = Leaves leaving ∷ Takes (stored ∷ []) ∷ []
+put_moves stored leaving (Refused need free) = []
 
 -- an arriving packet with its storage time, offered to the store
 abbrev pub offer_moves : Stored → Option Store → List Move
 offer_moves stored None = []
 offer_moves stored (Some store) =
     if is_offered stored.octets store
-    then put_moves (to_drop store (charge_of (length stored.octets))) (put store stored)
+    then put_moves stored (to_drop store (charge_of (length stored.octets))) (put store stored)
     else []
 
 abbrev pub arrival_moves : (identifier moment : ℕ) → (packet : List ℕ) → Table → List Move
@@ -83,18 +88,21 @@ arrival_moves identifier moment packet table =
 abbrev pub if_named : (identifier other : ℕ) → Move → List Move
 if_named identifier other move = if other == identifier then move ∷ [] else []
 
--- an instruction that takes effect, by the packets of the store
-abbrev pub item_moves : (identifier : ℕ) → Instruction → List Stored → List Move
-item_moves identifier (Create other kind size channel) packets = if_named identifier other Appears
-item_moves identifier (Remove other) packets = if_named identifier other Goes
-item_moves identifier (DeleteUpTo other t) packets =
-    if_named identifier other (Leaves (count_up_to t packets))
-item_moves identifier (StartRange other t1 t2) packets =
-    if_named identifier other (Starts (count_below t1 packets) (count_up_to t2 packets))
-item_moves identifier (Abort other) packets = if_named identifier other Aborts
-item_moves identifier (OpenFrom other t) packets =
-    if_named identifier other (GoesOn (count_below t packets))
-item_moves identifier _ packets = []
+-- an instruction that takes effect
+abbrev pub item_moves : (identifier : ℕ) → Instruction → Table → List Move
+item_moves identifier (Create other kind size channel) table = if_named identifier other Appears
+item_moves identifier (Remove other) table = if_named identifier other Goes
+item_moves identifier (DeleteUpTo other t) table =
+    if_named identifier other (Leaves (count_up_to t (packets_of identifier table)))
+item_moves identifier (Copy from other t1 t2) table =
+    if_named identifier other (Takes (window_of t1 t2 (packets_of from table)))
+item_moves identifier (StartRange other t1 t2) table =
+    if_named identifier other
+    (Starts (count_below t1 (packets_of identifier table)) (count_up_to t2 (packets_of identifier table)))
+item_moves identifier (Abort other) table = if_named identifier other Aborts
+item_moves identifier (OpenFrom other t) table =
+    if_named identifier other (GoesOn (count_below t (packets_of identifier table)))
+item_moves identifier _ table = []
 
 -- an instruction's moves where it took effect, and those of the others behind it
 abbrev pub moves_by : List Move → Table → Result Table ℕ → (Table → List Move) → List Move
@@ -104,7 +112,7 @@ moves_by moves table (Err code) behind = behind table
 abbrev pub items_moves : (blocks identifier : ℕ) → List Instruction → Table → List Move
 items_moves blocks identifier [] table = []
 items_moves blocks identifier (item ∷ items) table =
-    moves_by (item_moves identifier item (packets_in (store_named identifier table))) table
+    moves_by (item_moves identifier item table) table
     (instruct blocks item table) (items_moves blocks identifier items)
 
 abbrev pub request_moves : (blocks identifier : ℕ) → (packet : List ℕ) → Table → Option Verdict

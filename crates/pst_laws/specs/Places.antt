@@ -1,11 +1,12 @@
--- Where the retrievals of a store stand, and what its moves make of it.
-use Rattle.std.specs.Prelude.{◌≡◌, ℕ, ◌+◌, ◌-◌, List, [], ◌∷◌, Option, Some, None}
+-- The packets of a store and where its retrievals stand, and what its moves make of them.
+use Rattle.std.specs.Prelude.{◌≡◌, ◌≤◌, ℕ, ◌+◌, ◌-◌, List, [], ◌∷◌, ◌++◌, drop, length, Option, Some, None}
 use Rattle.pst_model.specs.Ranges.{range_between}
 use Rattle.pst_model.specs.Rules.{range_sent}
-use Rattle.pst_model.specs.Table.{Store, Table, range_behind}
-use Rattle.pst_laws.specs.Moves.{Appears, Aborts, Goes, GoesOn, Leaves, Move, OpenSends, RangeSends, Starts, store_named}
+use Rattle.pst_model.specs.Table.{Store, Stored, Table, range_behind}
+use Rattle.pst_laws.specs.Moves.{Appears, Aborts, Goes, GoesOn, Leaves, Move, OpenSends, RangeSends, Starts, Takes, store_named}
 
 pub record Place : Type 0 where
+  pub packets : List Stored
   -- how many packets at the front open retrieval has passed
   pub behind : ℕ
   -- the positions of a range retrieval, from the first one up to, and not including, the second
@@ -13,35 +14,37 @@ pub record Place : Type 0 where
 
 abbrev pub place_in : Option Store → Option Place
 place_in None = None
-place_in (Some store) = Some (record { behind = store.behind; range = store.range })
+place_in (Some store) =
+    Some (record { packets = store.packets; behind = store.behind; range = store.range })
 
 -- where the retrievals of the store of an identifier stand, if there is one
 abbrev pub place_of : (identifier : ℕ) → Table → Option Place
 place_of identifier table = place_in (store_named identifier table)
 
--- A move, and the places before and behind it. A range starts where none stands, a store goes where
--- none stands, and what is sent is the packet whose turn it is.
+-- A move, and the places before and behind it. No more packets leave than there are, a range starts
+-- where none stands, a store goes where none stands, and what is sent is the packet whose turn it
+-- is.
 pub data Moved : Move → Option Place → Option Place → Type 0 where
-  Appearing : Moved Appears None (Some (record { behind = 0; range = None }))
-  Going : (behind : ℕ) → Moved Goes (Some (record { behind = behind; range = None })) None
-  Leaving : (count behind : ℕ) (range : Option (ℕ × ℕ))
-      → Moved (Leaves count) (Some (record { behind = behind; range = range }))
-      (Some (record { behind = behind - count; range = range_behind count range }))
-  Starting : (behind next end : ℕ)
-      → Moved (Starts next end) (Some (record { behind = behind; range = None }))
-      (Some (record { behind = behind; range = range_between next end }))
-  Aborting : (behind : ℕ) (range : Option (ℕ × ℕ))
-      → Moved Aborts (Some (record { behind = behind; range = range }))
-      (Some (record { behind = behind; range = None }))
-  GoingOn : (behind position : ℕ) (range : Option (ℕ × ℕ))
-      → Moved (GoesOn position) (Some (record { behind = behind; range = range }))
-      (Some (record { behind = position; range = range }))
-  RangeSending : (behind next end : ℕ)
-      → Moved (RangeSends next) (Some (record { behind = behind; range = Some (next, end) }))
-      (Some (record { behind = behind; range = range_sent (Some (next, end)) }))
-  OpenSending : (behind : ℕ) (range : Option (ℕ × ℕ))
-      → Moved (OpenSends behind) (Some (record { behind = behind; range = range }))
-      (Some (record { behind = behind + 1; range = range }))
+  Appearing : Moved Appears None (Some (record { packets = []; behind = 0; range = None }))
+  Going : (place : Place) → place.range ≡ None → Moved Goes (Some place) None
+  Leaving : (count : ℕ) (place : Place) → count ≤ length place.packets
+      → Moved (Leaves count) (Some place) (Some (record {
+        packets = drop count place.packets;
+        behind = place.behind - count;
+        range = range_behind count place.range;
+      }))
+  Taking : (more : List Stored) (place : Place)
+      → Moved (Takes more) (Some place) (Some (record place { packets = place.packets ++ more }))
+  Starting : (next end : ℕ) (place : Place) → place.range ≡ None
+      → Moved (Starts next end) (Some place) (Some (record place { range = range_between next end }))
+  Aborting : (place : Place) → Moved Aborts (Some place) (Some (record place { range = None }))
+  GoingOn : (position : ℕ) (place : Place)
+      → Moved (GoesOn position) (Some place) (Some (record place { behind = position }))
+  RangeSending : (next end : ℕ) (place : Place) → place.range ≡ Some (next, end)
+      → Moved (RangeSends next) (Some place) (Some (record place { range = range_sent place.range }))
+  OpenSending : (place : Place)
+      → Moved (OpenSends place.behind) (Some place)
+      (Some (record place { behind = place.behind + 1 }))
 
 -- moves one behind another, from a place to another one
 pub data MovedBy : List Move → Option Place → Option Place → Type 0 where

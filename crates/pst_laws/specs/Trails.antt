@@ -1,7 +1,7 @@
 -- The packets that the retrievals of a store sent, by their numbers: a packet's number is its
 -- position and the packets that left the front before.
 use Rattle.std.specs.Prelude.{◌≡◌, ◌≤◌, ◌<◌, ℕ, ◌+◌, Bool, true, false, List, [], ◌∷◌, ◌++◌, Option, Some, None}
-use Rattle.pst_laws.specs.Moves.{Appears, Aborts, Goes, GoesOn, Leaves, Move, OpenSends, RangeSends, Starts}
+use Rattle.pst_laws.specs.Moves.{Appears, Aborts, Goes, GoesOn, Leaves, Move, OpenSends, RangeSends, Starts, Takes}
 use Rattle.pst_laws.specs.Places.{Place}
 
 -- The last range retrieval of a store: the numbers that were selected at its start, from the first
@@ -48,6 +48,7 @@ abbrev pub followed : Move → Trail → Trail
 followed Appears trail = trail_at None
 followed Goes trail = trail
 followed (Leaves count) trail = record trail { gone = trail.gone + count }
+followed (Takes packets) trail = trail
 followed (Starts next end) trail = record trail {
   range = record { first = trail.gone + next; end = trail.gone + end; sent = []; aborted = false };
 }

@@ -5,5 +5,7 @@
 mod moves;
 mod sending;
 
-pub use moves::{moves_tell_the_places, runs_are_those_of_the_model};
+pub use moves::{
+    grants_send_what_the_moves_tell, moves_tell_the_places, runs_are_those_of_the_model,
+};
 pub use sending::{open_retrievals_send_in_order, ranges_send_in_order};
