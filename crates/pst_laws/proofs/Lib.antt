@@ -3,6 +3,7 @@ pub mod Followed
 pub mod Found
 pub mod Granted
 pub mod Items
+mod MoveRows
 pub mod Numbers
 pub mod Placed
 pub mod Ranges
