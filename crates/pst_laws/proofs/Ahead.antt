@@ -1,13 +1,12 @@
 -- Open retrieval sends its packets in order.
 use Rattle.std.proofs.Common.{◌≤◌, ◌<◌, ℕ, ◌+◌, ◌-◌, List, [], Option, Some, None, arith}
 use Rattle.std.proofs.lemmas.List.Elements.{All-contains, All-nil, All-push, All-weaker}
-use Rattle.std.specs.Prelude.{All, Contains, find}
-use Rattle.pst_model.specs.Changes.{is_named}
+use Rattle.std.specs.Prelude.{All, Contains}
 use Rattle.pst_model.specs.Command.{Command}
-use Rattle.pst_model.specs.Table.{Store, Table}
-use Rattle.pst_laws.specs.Kept.{ArePassed, AreRising, IsOpenKept, IsPassedAt}
+use Rattle.pst_model.specs.Table.{Table}
+use Rattle.pst_laws.specs.Kept.{ArePassed, AreRising, IsOpenKept}
 use Rattle.pst_laws.specs.Moves.{Judge, Move, moves_along, run_by}
-use Rattle.pst_laws.specs.Places.{Aborting, Appearing, Going, GoingOn, Leaving, Moved, OpenSending, Place, RangeSending, Starting, Taking, place_in, place_of}
+use Rattle.pst_laws.specs.Places.{Aborting, Appearing, Going, GoingOn, Leaving, Moved, OpenSending, Place, RangeSending, Starting, Taking, place_of}
 use Rattle.pst_laws.specs.Trails.{OpenTrail, Trail, follow_all, followed, trail_at, with_passed}
 use Rattle.pst_laws.proofs.Followed.{along}
 use Rattle.pst_laws.proofs.Numbers.{none_passed, none_rising, passed_more, passed_one, rising_push}

@@ -1,5 +1,5 @@
 -- What each move keeps, moves one behind another keep.
-use Rattle.std.proofs.Common.{ℕ, List, [], ◌∷◌, Option}
+use Rattle.std.proofs.Common.{List, [], ◌∷◌, Option}
 use Rattle.pst_laws.specs.Moves.{Move}
 use Rattle.pst_laws.specs.Places.{Halted, Moved, MovedAlong, MovedBy, Onward, Place, Still, Then}
 use Rattle.pst_laws.specs.Trails.{Trail, follow, follow_all, followed}

@@ -1,7 +1,7 @@
 -- The store of an identifier behind a change of the first store that passes a test.
-use Rattle.std.proofs.Common.{◌≡◌, ℕ, Bool, true, false, List, [], ◌∷◌, ◌++◌, Option, Some, None, refl, sym, ◌∙◌, ap, subst}
-use Rattle.std.proofs.lemmas.Bool.{cond-false, cond-true, cond_both, eqb-true, eq-eqb}
-use Rattle.std.specs.Prelude.{◌==◌, ◌&&◌, not, find, map, if◌then◌else◌}
+use Rattle.std.proofs.Common.{◌≡◌, ℕ, Bool, true, false, List, [], ◌∷◌, Option, Some, refl, sym, ◌∙◌, ap, subst}
+use Rattle.std.proofs.lemmas.Bool.{cond-false, cond-true, eqb-true}
+use Rattle.std.specs.Prelude.{◌==◌, ◌&&◌, not, find, if◌then◌else◌}
 use Rattle.pst_model.specs.Changes.{is_named, with_store}
 use Rattle.pst_model.specs.Rules.{at_first}
 use Rattle.pst_model.specs.Table.{Store}

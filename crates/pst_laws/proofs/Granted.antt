@@ -1,11 +1,11 @@
 -- What goes out on a grant is the move of one store.
-use Rattle.std.proofs.Common.{◌≡◌, ◌≢◌, ◌<◌, ℕ, suc, ◌+◌, Bool, true, false, List, [], ◌∷◌, Option, Some, None, inl, inr, length, refl, sym, ◌∙◌, ap, arith}
+use Rattle.std.proofs.Common.{◌≡◌, ◌≢◌, ℕ, suc, Bool, true, false, List, [], ◌∷◌, Option, Some, None, inl, inr, refl, sym, ◌∙◌, ap, arith}
 use Rattle.std.proofs.lemmas.Bool.{cond-false, cond-true, eqb-true, eq-eqb, ne_eqb}
 use Rattle.std.proofs.lemmas.List.{get_or-map, length-map}
-use Rattle.std.specs.Prelude.{◌⊎◌, ◌==◌, ◌&&◌, All, find, not, if◌then◌else◌}
+use Rattle.std.specs.Prelude.{◌&&◌, All, find, not, if◌then◌else◌}
 use Rattle.pst_model.specs.Changes.{is_named}
 use Rattle.pst_model.specs.Laws.{AreDistinct, identifiers}
-use Rattle.pst_model.specs.Rules.{Output, grant, grant_open, grant_range, has_ahead, has_range, range_next, retrieved}
+use Rattle.pst_model.specs.Rules.{grant, grant_open, grant_range, has_ahead, has_range, range_next}
 use Rattle.pst_model.specs.Table.{Store, Table}
 use Rattle.pst_model.proofs.Carried.{found_has}
 use Rattle.pst_model.proofs.Shapes.{found_passes}

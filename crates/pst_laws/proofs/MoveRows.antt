@@ -1,13 +1,12 @@
 -- Moves and trails of worked runs, by computation. Each request is carried out, whatever its kind.
-use Rattle.std.proofs.Common.{◌≡◌, ℕ, ◌+◌, true, false, List, [], ◌∷◌, ◌++◌, refl, Option, Some, None}
+use Rattle.std.proofs.Common.{◌≡◌, ℕ, false, List, [], ◌∷◌, ◌++◌, refl, Some, None}
 use Rattle.std.specs.Prelude.{map}
 use Rattle.std.specs.List.{range_with_len}
 use Rattle.control_defs.specs.declared.instructions.Instruction.{Instruction}
-use Rattle.control_defs.specs.declared.instructions.Instruction.TheVariants.{Abort, Copy, Create, DeleteUpTo, Disable, OpenFrom, Remove, StartRange, Suspend}
+use Rattle.control_defs.specs.declared.instructions.Instruction.TheVariants.{Abort, Copy, Create, DeleteUpTo, OpenFrom, Remove, StartRange}
 use Rattle.control_defs.specs.declared.instructions.StoreKind.TheVariants.{Circular}
-use Rattle.pst_model.specs.declared.verdicts.Verdict.{Verdict}
 use Rattle.pst_model.specs.Command.{Command, Arrival, Request, Grant}
-use Rattle.pst_model.specs.Table.{Store, Stored, Table, after_format, boot_store}
+use Rattle.pst_model.specs.Table.{Stored, Table, after_format, boot_store}
 use Rattle.pst_laws.specs.Moves.{Aborts, Appears, Goes, GoesOn, Judge, Leaves, Move, OpenSends, RangeSends, Starts, Takes, items_moves, moves_along}
 use Rattle.pst_laws.specs.Places.{place_of}
 use Rattle.pst_laws.specs.Trails.{Trail, follow, follow_all, trail_at}
@@ -47,7 +46,7 @@ both_twice : moves one_time
 both_twice = refl
 
 each_number_twice : trail one_time
-    ≡ record { gone = 0; range = record { first = 0; end = 2; sent = 0 ∷ 1 ∷ []; aborted = false }; ahead = record { first = 0; sent = 0 ∷ 1 ∷ [] } }
+    ≡ record { numbered = record { time = 0x30; octets = packet 1 } ∷ record { time = 0x30; octets = packet 2 } ∷ []; gone = 0; range = record { first = 0; end = 2; sent = 0 ∷ 1 ∷ []; aborted = false }; ahead = record { first = 0; sent = 0 ∷ 1 ∷ [] } }
 each_number_twice = refl
 
 -- a range over 64 packets, half of which leave for others before their turn
@@ -56,7 +55,7 @@ half_leaves = map (λ n. Arrival n (packet n)) (range_with_len 1 64) ++ Request 
     ∷ map (λ n. Arrival n (packet n)) (range_with_len 65 32) ++ map (λ n. Grant n) (range_with_len 97 64)
 
 the_others_go_out : trail half_leaves
-    ≡ record { gone = 32; range = record { first = 0; end = 64; sent = range_with_len 32 32; aborted = false }; ahead = record { first = 0; sent = [] } }
+    ≡ record { numbered = map (λ n. record { time = n; octets = packet n }) (range_with_len 1 96); gone = 32; range = record { first = 0; end = 64; sent = range_with_len 32 32; aborted = false }; ahead = record { first = 0; sent = [] } }
 the_others_go_out = refl
 
 -- no other store has a move
@@ -97,5 +96,5 @@ copied_into = refl
 
 -- at the begin, a range that stands is one of all its positions
 begins_in_a_range : trail_at (place_of 1 (record after_format { stores = record boot_store { packets = four; behind = 3; range = Some (1, 3) } ∷ [] }))
-    ≡ record { gone = 0; range = record { first = 1; end = 3; sent = []; aborted = false }; ahead = record { first = 3; sent = [] } }
+    ≡ record { numbered = four; gone = 0; range = record { first = 1; end = 3; sent = []; aborted = false }; ahead = record { first = 3; sent = [] } }
 begins_in_a_range = refl

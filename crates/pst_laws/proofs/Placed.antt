@@ -16,7 +16,7 @@ use Rattle.pst_model.specs.Instructions.{instruct}
 use Rattle.pst_model.specs.Least.{least}
 use Rattle.pst_model.specs.Replies.{behind_outputs}
 use Rattle.pst_model.specs.Requests.{items_in}
-use Rattle.pst_model.specs.Rules.{Put, Refused, Step, Taken, at_first, behind_put, free_of, grant_open, grant_range, has_ahead, has_range, has_room, is_refused, put, range_next, range_sent, to_drop}
+use Rattle.pst_model.specs.Rules.{Refused, Taken, at_first, behind_put, free_of, grant_open, grant_range, has_ahead, has_range, has_room, is_refused, put, range_next, range_sent, to_drop}
 use Rattle.pst_model.specs.Table.{Store, Stored, Table, drop_front}
 use Rattle.pst_model.proofs.Shapes.{found_passes}
 use Rattle.pst_model.proofs.StoresKept.{behind_packet}

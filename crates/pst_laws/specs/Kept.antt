@@ -1,7 +1,14 @@
 -- What holds of the packets that the retrievals of a store sent.
-use Rattle.std.specs.Prelude.{◌≡◌, ◌≤◌, ◌<◌, ◌⊎◌, ⊤, ℕ, ◌+◌, false, All, AllPairs, Contains, List, Option, Some, None}
+use Rattle.std.specs.Prelude.{◌≡◌, ◌≤◌, ◌<◌, ◌⊎◌, ⊤, ℕ, ◌+◌, false, All, AllPairs, Contains, drop, length, List, Option, Some, None}
+use Rattle.pst_model.specs.Table.{Stored}
 use Rattle.pst_laws.specs.Places.{Place}
-use Rattle.pst_laws.specs.Trails.{OpenTrail, RangeTrail, Trail}
+use Rattle.pst_laws.specs.Trails.{Trail}
+
+-- The packets of a store are the numbered ones but those that left, so that the one at a position
+-- has the number of this position and those that left.
+pub record AreNumbered (trail : Trail) (packets : List Stored) : Type 0 where
+  pub within : trail.gone ≤ length trail.numbered
+  pub rest : packets ≡ drop trail.gone trail.numbered
 
 -- each number is below the next ones
 abbrev pub AreRising : List ℕ → Type 0
@@ -18,6 +25,10 @@ range_at (Some place) = place.range
 abbrev pub IsAhead : (gone number : ℕ) → Option (ℕ × ℕ) → Type 0
 IsAhead gone number None = ⊥
 IsAhead gone number (Some (next, end)) = IsFrom (gone + next) (gone + end) number
+
+abbrev pub IsNumberedAt : Trail → Option Place → Type 0
+IsNumberedAt trail None = ⊤
+IsNumberedAt trail (Some place) = AreNumbered trail place.packets
 
 -- A range retrieval sends packets that were selected at its start, in rising order. As long as it
 -- is not aborted, each selected packet was sent, or left the front without that, or is still ahead.

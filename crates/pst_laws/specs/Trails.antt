@@ -1,6 +1,7 @@
 -- The packets that the retrievals of a store sent, by their numbers: a packet's number is its
 -- position and the packets that left the front before.
-use Rattle.std.specs.Prelude.{◌≡◌, ◌≤◌, ◌<◌, ℕ, ◌+◌, Bool, true, false, List, [], ◌∷◌, ◌++◌, Option, Some, None}
+use Rattle.std.specs.Prelude.{ℕ, ◌+◌, Bool, true, false, List, [], ◌∷◌, ◌++◌, Option, Some, None}
+use Rattle.pst_model.specs.Table.{Stored}
 use Rattle.pst_laws.specs.Moves.{Appears, Aborts, Goes, GoesOn, Leaves, Move, OpenSends, RangeSends, Starts, Takes}
 use Rattle.pst_laws.specs.Places.{Place}
 
@@ -18,8 +19,11 @@ pub record OpenTrail : Type 0 where
   pub first : ℕ
   pub sent : List ℕ
 
+-- What there was since the begin, or since the store was created where that is later.
 pub record Trail : Type 0 where
-  -- the packets that left the front, since the begin or since the store was created
+  -- the packets of the store, in the order of their numbers: those of the begin, and those that came
+  pub numbered : List Stored
+  -- how many of them left the front
   pub gone : ℕ
   pub range : RangeTrail
   pub ahead : OpenTrail
@@ -31,8 +35,9 @@ range_trail (Some (next, end)) = record { first = next; end = end; sent = []; ab
 -- at the begin: nothing left, and a range that stands is one of all its positions
 abbrev pub trail_at : Option Place → Trail
 trail_at None =
-    record { gone = 0; range = range_trail None; ahead = record { first = 0; sent = [] } }
+    record { numbered = []; gone = 0; range = range_trail None; ahead = record { first = 0; sent = [] } }
 trail_at (Some place) = record {
+  numbered = place.packets;
   gone = 0;
   range = range_trail place.range;
   ahead = record { first = place.behind; sent = [] };
@@ -48,7 +53,7 @@ abbrev pub followed : Move → Trail → Trail
 followed Appears trail = trail_at None
 followed Goes trail = trail
 followed (Leaves count) trail = record trail { gone = trail.gone + count }
-followed (Takes packets) trail = trail
+followed (Takes packets) trail = record trail { numbered = trail.numbered ++ packets }
 followed (Starts next end) trail = record trail {
   range = record { first = trail.gone + next; end = trail.gone + end; sent = []; aborted = false };
 }

@@ -8,4 +8,6 @@ mod sending;
 pub use moves::{
     grants_send_what_the_moves_tell, moves_tell_the_places, runs_are_those_of_the_model,
 };
-pub use sending::{open_retrievals_send_in_order, ranges_send_in_order};
+pub use sending::{
+    open_retrievals_send_in_order, packets_keep_their_numbers, ranges_send_in_order,
+};
