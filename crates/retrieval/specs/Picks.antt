@@ -1,9 +1,11 @@
 -- The packet that a grant sends, by the rows of stores, and what becomes of their positions
 -- (ECSS-E-ST-70-41C, 6.15.3).
-use Rattle.std.specs.Prelude.{◌≡◌, ◌<◌, ◌^◌, ℕ, ◌+◌, ◌-◌, ◌%◌, ◌&&◌, Bool, true, false, nat_lt, if◌then◌else◌, List, [], ◌∷◌, Option, Some, None}
+use Rattle.std.specs.Prelude.{◌≡◌, ◌<◌, ◌^◌, ℕ, ◌+◌, ◌-◌, ◌%◌, ◌&&◌, Bool, true, false, is_some, nat_lt, if◌then◌else◌, List, [], ◌∷◌, Option, Some, None}
+use Rattle.std.specs.Option.{option_or}
 use Rattle.pst_model.specs.Ranges.{range_between}
-use Rattle.pst_model.specs.Rules.{range_sent}
+use Rattle.pst_model.specs.Rules.{range_next, range_sent}
 use Rattle.pst_model.specs.Table.{range_behind}
+use Rattle.store_directory.specs.Directory.{Listed}
 use Rattle.store_directory.specs.declared.row.Row.{Row}
 use Rattle.time_index.specs.TimeIndex.{TimeIndex, count_below, count_up_to}
 use Rattle.retrieval.specs.declared.pick.Pick.{Pick}
@@ -39,3 +41,33 @@ ranged_row t1 t2 index row = record row {
 -- the row whose open retrieval goes on from t
 abbrev pub opened_row : (t : ℕ) → TimeIndex → Row → Row
 opened_row t index row = record row { behind = count_below index.entries t }
+
+-- whether a store has a range, or packets ahead of open retrieval
+abbrev pub has_range : Row → Bool
+has_range row = is_some row.range
+
+abbrev pub has_ahead : Row → Bool
+has_ahead row = row.open_on && nat_lt row.behind row.count
+
+-- the next packet of a store at a place
+
+abbrev pub range_pick : (at : ℕ) → Row → Pick
+range_pick at row =
+    record { at = at; position = range_next row.range; channel = row.channel; range = true }
+
+abbrev pub open_pick : (at : ℕ) → Row → Pick
+open_pick at row =
+    record { at = at; position = row.behind; channel = row.channel; range = false }
+
+-- that of the first store that passes, the first of which has this place
+abbrev pub first_pick : (Row → Bool) → ((at : ℕ) → Row → Pick) → (at : ℕ) → List Listed
+    → Option Pick
+first_pick test pick at [] = None
+first_pick test pick at (store ∷ stores) =
+    if test store.row then Some (pick at store.row) else first_pick test pick (at + 1) stores
+
+-- The packet that a grant sends: that of the first range; where there is none, that of the first
+-- store whose open retrieval has packets ahead.
+abbrev pub pick_of : List Listed → Option Pick
+pick_of stores =
+    option_or (first_pick has_range range_pick 0 stores) (first_pick has_ahead open_pick 0 stores)
