@@ -1,6 +1,6 @@
 // Which store is served, on a directory of three.
 
-use crate::{Pick, next_of};
+use crate::{Pick, after_sent, next_of};
 use control_defs::StoreKind;
 use std::alloc::Global;
 use store_directory::{Change, Directory, Row};
@@ -51,4 +51,31 @@ fn a_later_range_goes_before_an_earlier_open_retrieval(rt: HostRuntime) {
     assert!(rt; pick_among(rt.alloc(), &[open, passed, range]) == of_range);
     assert!(rt; pick_among(rt.alloc(), &[passed, open]) == of_open);
     assert!(rt; pick_among(rt.alloc(), &[passed, row(4, false, 0, None)]).is_none());
+}
+
+// The last packet of a range.
+const LAST: Row = Row {
+    identifier: 1,
+    kind: StoreKind::Bounded,
+    size: 64,
+    channel: 3,
+    storage: true,
+    open_on: true,
+    told: false,
+    first: 0,
+    count: 9,
+    behind: 8,
+    range: Some((5, 6)),
+};
+
+#[test]
+fn a_range_ends_behind_its_last_packet(rt: HostRuntime) {
+    let pick = Pick {
+        at: 0,
+        position: 5,
+        channel: 3,
+        range: true,
+    };
+    let row = after_sent(&LAST, &pick);
+    assert!(rt; row.range.is_none() && row.behind == 8);
 }
