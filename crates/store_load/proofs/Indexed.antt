@@ -1,13 +1,13 @@
 -- The index that is loaded is that of the store.
-use Rattle.std.proofs.Common.{◌≡◌, ℕ, zero, suc, ◌+◌, ◌≤◌, ◌&&◌, nat_le, Bool, true, false, List, [], ◌∷◌, ◌++◌, length, drop, map, Option, Some, None, refl, sym, ◌∙◌, ap, subst, arith}
+use Rattle.std.proofs.Common.{◌≡◌, ℕ, ◌+◌, ◌≤◌, ◌&&◌, nat_le, true, false, List, [], ◌∷◌, ◌++◌, length, drop, map, Option, Some, None, refl, sym, ◌∙◌, ap, subst, arith}
 use Rattle.std.specs.Prelude.{⊤}
-use Rattle.std.proofs.lemmas.Bool.{and_parts, le-leb, leb-true}
+use Rattle.std.proofs.lemmas.Bool.{le-leb, leb-true}
 use Rattle.std.proofs.lemmas.List.{drop-map, map-append}
 use Rattle.std.proofs.lemmas.Option.{none-some, same_Some}
 use Rattle.record_view.specs.Records.{Meaning}
 use Rattle.record_view.specs.declared.link.Link.{Link}
 use Rattle.space_packet.specs.Charge.{charge_of}
-use Rattle.store_directory.specs.Options.{◌>>=◌, given}
+use Rattle.store_directory.specs.Options.{◌>>=◌}
 use Rattle.store_directory.specs.declared.row.Row.{Row}
 use Rattle.store_directory.proofs.Steps.{some_then}
 use Rattle.time_index.specs.TimeIndex.{TimeIndex, pages_of}
@@ -18,9 +18,9 @@ use Rattle.store_load.specs.Kept.{are_filled, are_short, begins_well, dead_by, k
 use Rattle.store_load.specs.Loaded.{index_by, index_of, index_with, limits_of, placed, placed_all, seen, shown, start_of}
 use Rattle.store_load.specs.Loading.{Progress, load_extents}
 use Rattle.store_load.specs.declared.rule.Rule.{Rule}
-use Rattle.store_load.proofs.Counting.{KeptAre, kept_parts}
+use Rattle.store_load.proofs.Counting.{kept_parts}
 use Rattle.store_load.proofs.Eachs.{both, each_cons, given_then}
-use Rattle.store_load.proofs.Takings.{Room, Takes, TakesAll, pages_match, placed_lengths, room_all, takes_all}
+use Rattle.store_load.proofs.Takings.{pages_match, placed_lengths, room_all, takes_all}
 
 all_lengths : (image : ℕ → List ℕ) (extents : List Extent) (reads : List (List Meaning)) → each (read_extent image) extents ≡ Some reads
     → map (λ (e : Entry). e.length) (placed_all extents reads) ≡ map (λ (m : Meaning). length m.packet) (joined reads)

@@ -1,9 +1,7 @@
 -- What an index takes of records, and when it takes all of them.
-use Rattle.std.proofs.Common.{◌≡◌, ℕ, zero, suc, ◌+◌, ◌-◌, ◌≤◌, ◌&&◌, ◌||◌, nat_le, Bool, true, false, List, [], ◌∷◌, ◌++◌, length, drop, map, sum_by, Option, Some, None, refl, sym, ◌∙◌, ap, subst, arith, append_assoc, append-nil, length-append}
+use Rattle.std.proofs.Common.{◌≡◌, ℕ, zero, suc, ◌+◌, ◌-◌, ◌≤◌, ◌&&◌, ◌||◌, nat_le, Bool, true, false, List, [], ◌∷◌, ◌++◌, length, drop, map, Some, None, refl, sym, ◌∙◌, ap, subst, arith, append_assoc, append-nil, length-append}
 use Rattle.std.specs.Prelude.{⊤, if◌then◌else◌}
-use Rattle.std.specs.List.{list_all}
 use Rattle.std.proofs.lemmas.Bool.{and_parts, le-leb, leb-true}
-use Rattle.std.proofs.lemmas.Bool.Decides.{nat_tests}
 use Rattle.std.proofs.lemmas.List.{drop-map}
 use Rattle.std.proofs.lemmas.List.Folds.{list_all-append}
 use Rattle.std.proofs.lemmas.List.Sums.{sum_by-append, sum_by-cons}
@@ -12,7 +10,7 @@ use Rattle.space_packet.specs.Charge.{charge_of}
 use Rattle.record_view.specs.Records.{Meaning}
 use Rattle.store_directory.specs.Options.{◌>>=◌, given}
 use Rattle.store_directory.proofs.Steps.{some_then}
-use Rattle.time_index.specs.TimeIndex.{TimeIndex, pages_of, with_entry}
+use Rattle.time_index.specs.TimeIndex.{TimeIndex, pages_of}
 use Rattle.time_index.specs.declared.entry.Entry.{Entry}
 use Rattle.store_load.specs.Each.{each}
 use Rattle.store_load.specs.Extents.{Extent, joined, pages_in, read_extent}

@@ -1,14 +1,11 @@
-use Rattle.std.proofs.Common.{◌≡◌, ◌*◌, ◌≤◌, None, Some, length, true, false, ℕ, Err, sym, ◌∙◌, ap, arith}
-use Rattle.board.specs.Meaning.{TellsFlash}
-use Rattle.board.specs.Reads.{ReadsOnly}
+use Rattle.std.proofs.Common.{◌≡◌, Some, true, ℕ, Err, sym, ◌∙◌, ap, arith}
 use Rattle.board.proofs.Reading.{reads_most, reads_none}
 use Rattle.store_load.specs.Extents.{extents_of}
 use Rattle.store_load.specs.Kept as kept
 use Rattle.store_load.specs.Loaded.{limits_of, start_of}
-use Rattle.store_load.specs.Loading.{Progress, load_extents}
+use Rattle.store_load.specs.Loading.{load_extents}
 use Rattle.store_load.proofs.Indexed.{loaded_index, not_begun, unloaded_index}
 use Rattle.store_load.proofs.LinkWalks.{on_unlawful, used_last}
-use Rattle.time_index.specs.TimeIndex.{TimeIndex}
 use Rattle.store_load.proofs.store_loading.load_store.Goals as goal
 
 pub returns-then-not-begins_well-clause-unlawful :
