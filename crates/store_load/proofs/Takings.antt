@@ -14,6 +14,7 @@ use Rattle.time_index.specs.TimeIndex.{TimeIndex, pages_of}
 use Rattle.time_index.specs.declared.entry.Entry.{Entry}
 use Rattle.store_load.specs.Each.{each}
 use Rattle.store_load.specs.Extents.{Extent, joined, pages_in, read_extent}
+use Rattle.store_load.specs.Held.{AreTaken}
 use Rattle.store_load.specs.Kept.{are_filled, are_short, rise_to}
 use Rattle.store_load.specs.Loaded.{placed, placed_all}
 use Rattle.store_load.specs.Loading.{Progress, entry_at, is_last, load_extents, may_follow, take_one, take_records, take_short, with_live}
@@ -223,40 +224,41 @@ takes_records limits block page (meaning ∷ records) old new is =
     (takes_records limits block (page + charge_of (length meaning.packet)) records middle new rest)
 
 -- the records of extents
-pub record TakesAll (limits : Limits) (least : ℕ) (image : ℕ → List ℕ) (extents : List Extent) (old new : Progress) : Type 0 where
-  pub reads : List (List Meaning)
-  pub read : each (read_extent image) extents ≡ Some reads
-  pub filled : are_filled least reads ≡ true
-  pub takes : Takes limits old (joined reads) (placed_all extents reads) new
-
-filled_cons : (least : ℕ) (image : ℕ → List ℕ) (records : List Meaning) (extents : List Extent) (reads : List (List Meaning)) → each (read_extent image) extents ≡ Some reads
-    → (is_last extents || nat_le least (pages_in records)) ≡ true → are_filled least reads ≡ true → are_filled least (records ∷ reads) ≡ true
-filled_cons least image records extents [] are h filled = refl
-filled_cons least image records [] (next ∷ reads) are h filled = absurd (nothing (same_Some [] (next ∷ reads) are))
+pub takes_all : (limits : Limits) (least : ℕ) (extents : List Extent) (reads : List (List Meaning)) (old new : Progress)
+    → AreTaken limits least extents reads old new
+    → (are_filled least reads ≡ true) × Takes limits old (joined reads) (placed_all extents reads) new
+takes_all limits least [] [] old new are = (refl, subst (Takes limits old [] []) are (takes_none limits old))
+takes_all limits least [] (records ∷ reads) old new are = absurd are
+takes_all limits least (extent ∷ extents) [] old new are = absurd are
+takes_all limits least (extent ∷ extents) (records ∷ reads) old new (middle, took, filled, rest) =
+    let behind = takes_all limits least extents reads middle new rest in (
+      filled_cons limits least records extents reads middle new rest filled behind.0,
+      takes_then limits old middle new records (joined reads) (placed extent.block 0 records) (placed_all extents reads)
+          (takes_records limits extent.block 0 records old middle took) behind.1,
+    )
   where
-    nothing : [] ≡ next ∷ reads → ⊥
-    nothing e = absurd (omega (arith, ap length e))
-filled_cons least image records (extent ∷ extents) (next ∷ reads) are h filled = both (nat_le least (pages_in records)) (are_filled least (next ∷ reads)) h filled
+    filled_cons : (limits : Limits) (least : ℕ) (records : List Meaning) (extents : List Extent) (reads : List (List Meaning)) (old new : Progress)
+        → AreTaken limits least extents reads old new → (is_last extents || nat_le least (pages_in records)) ≡ true
+        → are_filled least reads ≡ true → are_filled least (records ∷ reads) ≡ true
+    filled_cons limits least records [] [] old new are h filled = refl
+    filled_cons limits least records [] (next ∷ reads) old new are h filled = absurd are
+    filled_cons limits least records (extent ∷ extents) [] old new are h filled = absurd are
+    filled_cons limits least records (extent ∷ extents) (next ∷ reads) old new are h filled = both (nat_le least (pages_in records)) (are_filled least (next ∷ reads)) h filled
 
-pub takes_all : (limits : Limits) (least : ℕ) (image : ℕ → List ℕ) (extents : List Extent) (old new : Progress) → load_extents limits least image extents old ≡ Some new
-    → TakesAll limits least image extents old new
+-- what was loaded of an image was taken of what its blocks spell
+pub loads_taken : (limits : Limits) (least : ℕ) (image : ℕ → List ℕ) (extents : List Extent) (old new : Progress)
+    → load_extents limits least image extents old ≡ Some new
+    → (reads : List (List Meaning)) × (each (read_extent image) extents ≡ Some reads) × AreTaken limits least extents reads old new
 unfolding load_extents
-takes_all limits least image [] old new is =
-    record { reads = []; read = refl; filled = refl; takes = subst (Takes limits old [] []) (same_Some old new is) (takes_none limits old) }
-takes_all limits least image (extent ∷ extents) old new is =
+loads_taken limits least image [] old new is = ([], refl, same_Some old new is)
+loads_taken limits least image (extent ∷ extents) old new is =
     let (records, read, more) = some_then (read_extent image extent) (λ (records : List Meaning). take_records limits extent.block 0 records old >>= λ (next : Progress).
     given (is_last extents || nat_le least (pages_in records)) >>= λ (_ : ⊤). load_extents limits least image extents next) new is in
     let (middle, took, rest) = some_then (take_records limits extent.block 0 records old) (λ (next : Progress).
     given (is_last extents || nat_le least (pages_in records)) >>= λ (_ : ⊤). load_extents limits least image extents next) new more in
     let parts = given_then (is_last extents || nat_le least (pages_in records)) (λ (_ : ⊤). load_extents limits least image extents middle) new rest in
-    let behind = takes_all limits least image extents middle new parts.1 in
-    record {
-      reads = records ∷ behind.reads;
-      read = each_more (read_extent image) extent extents records behind.reads read behind.read;
-      filled = filled_cons least image records extents behind.reads behind.read parts.0 behind.filled;
-      takes = takes_then limits old middle new records (joined behind.reads) (placed extent.block 0 records) (placed_all extents behind.reads)
-          (takes_records limits extent.block 0 records old middle took) behind.takes;
-    }
+    let (reads, are, taken) = loads_taken limits least image extents middle new parts.1 in
+    (records ∷ reads, each_more (read_extent image) extent extents records reads read are, (middle, took, parts.0, taken))
 
 -- an index has room for records
 pub record Room (limits : Limits) (old : Progress) (records : List Meaning) : Type 0 where
