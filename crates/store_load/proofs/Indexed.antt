@@ -21,7 +21,8 @@ use Rattle.store_load.specs.Loading.{Progress, load_extents}
 use Rattle.store_load.specs.declared.rule.Rule.{Rule}
 use Rattle.store_load.proofs.Counting.{kept_parts}
 use Rattle.store_load.proofs.Eachs.{both, each_cons, each_length, given_then}
-use Rattle.store_load.proofs.Takings.{loads_taken, pages_match, placed_lengths, room_all, takes_all}
+use Rattle.store_load.proofs.Room.{room_all}
+use Rattle.store_load.proofs.Takings.{loads_taken, pages_match, placed_lengths, takes_all}
 
 pub all_lengths : (extents : List Extent) (reads : List (List Meaning)) → length reads ≡ length extents
     → map (λ (e : Entry). e.length) (placed_all extents reads) ≡ map (λ (m : Meaning). length m.packet) (joined reads)

@@ -17,6 +17,7 @@ pub mod TakenOn
 pub mod LinkLoading
 pub mod LinkWalks
 pub mod Takings
+pub mod Room
 pub mod Indexed
 pub mod InRange
 pub mod Full
