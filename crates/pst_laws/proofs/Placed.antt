@@ -11,7 +11,7 @@ use Rattle.pst_model.specs.declared.verdicts.Verdict.{Verdict}
 use Rattle.pst_model.specs.Answers.{answer_by, carried_by, carry_out_from, data_in}
 use Rattle.pst_model.specs.Arrivals.{arrive, forwarded_on, is_offered, offer, offered}
 use Rattle.pst_model.specs.Changes.{is_named}
-use Rattle.pst_model.specs.Command.{Command, Arrival, Request, Grant}
+use Rattle.pst_model.specs.Command.{Command, Arrival, Request, Grant, Idle}
 use Rattle.pst_model.specs.Instructions.{instruct}
 use Rattle.pst_model.specs.Least.{least}
 use Rattle.pst_model.specs.Replies.{behind_outputs}
@@ -158,6 +158,7 @@ module _ (judge : Judge) (blocks identifier : ℕ) where
   command_leads number (Arrival moment packet) table = arrival_leads blocks number identifier moment packet table
   command_leads number (Request moment packet) table = request_leads blocks number identifier moment packet table (judge packet)
   command_leads number (Grant moment) table = range_leads blocks number identifier table (find has_range table.stores) refl
+  command_leads number (Idle moment) table = Still (place_of identifier table)
 
   pub run_leads : (number : ℕ) (table : Table) (commands : List Command)
       → MovedAlong (moves_along judge blocks number identifier table commands) (place_of identifier table) (place_of identifier (run_by judge blocks number table commands).table)

@@ -10,7 +10,7 @@ use Rattle.space_packet.specs.Charge.{charge_of}
 use Rattle.pst_model.specs.Answers.{answer_by, data_in}
 use Rattle.pst_model.specs.Arrivals.{arrive, is_offered}
 use Rattle.pst_model.specs.Changes.{is_named}
-use Rattle.pst_model.specs.Command.{Command, Arrival, Request, Grant}
+use Rattle.pst_model.specs.Command.{Command, Arrival, Request, Grant, Idle}
 use Rattle.pst_model.specs.Instructions.{instruct}
 use Rattle.pst_model.specs.Ranges.{count_below, count_up_to, window_of}
 use Rattle.pst_model.specs.Replies.{behind_outputs}
@@ -47,6 +47,7 @@ step_by judge blocks number (Arrival moment packet) table = arrive number moment
 step_by judge blocks number (Request moment packet) table =
     answer_by blocks number moment packet table (judge packet)
 step_by judge blocks number (Grant moment) table = grant number table
+step_by judge blocks number (Idle moment) table = record { table = table; outputs = [] }
 
 -- the run of commands, the first of which has this number
 abbrev pub run_by : Judge → (blocks number : ℕ) → Table → List Command → Step
@@ -148,6 +149,7 @@ moves_of judge blocks identifier (Request moment packet) table =
     request_moves blocks identifier packet table (judge packet)
 moves_of judge blocks identifier (Grant moment) table =
     range_moves identifier table (find has_range table.stores)
+moves_of judge blocks identifier (Idle moment) table = []
 
 -- What each of these commands, the first of which has this number, does to it.
 abbrev pub moves_along : Judge → (blocks number identifier : ℕ) → Table → List Command

@@ -1,7 +1,7 @@
 -- Runs in which each request is carried out, also one of a pending kind.
 use Rattle.std.proofs.Common.{ℕ, ◌+◌, List, [], ◌∷◌, None}
 use Rattle.pst_model.specs.Answers.{answer_by}
-use Rattle.pst_model.specs.Command.{Command, Arrival, Request, Grant}
+use Rattle.pst_model.specs.Command.{Command, Arrival, Request, Grant, Idle}
 use Rattle.pst_model.specs.Replies.{behind_outputs}
 use Rattle.pst_model.specs.Rules.{Output, Reply, Step}
 use Rattle.pst_model.specs.Run.{step}
@@ -11,6 +11,7 @@ abbrev carry_step : (blocks number : ℕ) → Command → Table → Step
 carry_step blocks number (Arrival moment packet) table = step blocks number (Arrival moment packet) table
 carry_step blocks number (Request moment packet) table = answer_by blocks number moment packet table None
 carry_step blocks number (Grant moment) table = step blocks number (Grant moment) table
+carry_step blocks number (Idle moment) table = step blocks number (Idle moment) table
 
 abbrev carry_from : (blocks number : ℕ) → Table → List Command → Step
 carry_from blocks number table [] = record { table = table; outputs = [] }

@@ -9,7 +9,7 @@ use Rattle.pus_header.specs.Commands.{service_of, subtype_of}
 use Rattle.pst_model.specs.declared.verdicts.Verdict.{Verdict}
 use Rattle.pst_model.specs.Answers.{answer_by, carry_out, data_in, on_request, refusal_of, reports_on}
 use Rattle.pst_model.specs.Arrivals.{arrive, forwarded_on, offer_report}
-use Rattle.pst_model.specs.Command.{Command, Arrival, Request, Grant}
+use Rattle.pst_model.specs.Command.{Command, Arrival, Request, Grant, Idle}
 use Rattle.pst_model.specs.Laws.{is_reply, replies_in}
 use Rattle.pst_model.specs.Replies.{replied, replies_from, reply}
 use Rattle.pst_model.specs.Reports.{Report, count_behind}
@@ -90,3 +90,4 @@ pub step_counted : (blocks number : ℕ) (command : Command) (table : Table) →
 step_counted blocks number (Arrival moment packet) table small = arrive_counted number moment packet table small
 step_counted blocks number (Request moment packet) table small = answer_counted blocks number moment packet table (refusal_of packet)
 step_counted blocks number (Grant moment) table small = range_counted number table (find has_range table.stores) small
+step_counted blocks number (Idle moment) table small = none table.reports small

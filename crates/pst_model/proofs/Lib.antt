@@ -6,6 +6,7 @@ mod ContentRows
 pub mod Copied
 pub mod Counted
 pub mod Effects
+pub mod FaultyLines
 pub mod Filled
 pub mod ItemOctets
 mod ItemRows
@@ -26,6 +27,7 @@ pub mod Reservations
 pub mod Runs
 pub mod Shapes
 pub mod SpelledRequests
+pub mod SplitFields
 mod StoreRows
 pub mod StoredPages
 pub mod StoresKept

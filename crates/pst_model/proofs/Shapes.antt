@@ -9,7 +9,7 @@ use Rattle.pus_header.specs.Commands.{service_of, subtype_of}
 use Rattle.pst_model.specs.declared.verdicts.Verdict.{Verdict}
 use Rattle.pst_model.specs.Answers.{answer_by, data_in, refusal_of}
 use Rattle.pst_model.specs.Arrivals.{arrive, is_offered, offered}
-use Rattle.pst_model.specs.Command.{Command, Arrival, Request, Grant}
+use Rattle.pst_model.specs.Command.{Command, Arrival, Request, Grant, Idle}
 use Rattle.pst_model.specs.Instructions.{instruct}
 use Rattle.pst_model.specs.Requests.{items_in}
 use Rattle.pst_model.specs.Rules.{Refused, Step, Taken, at_first, behind_put, free_of, grant, grant_open, grant_range, has_ahead, has_range, is_refused, put, range_sent}
@@ -108,3 +108,4 @@ module _ {X : Type 0} (f : Store → X)
     step_shape number (Arrival moment packet) table holds = subst R (sym (arrive_same number moment packet table)) holds
     step_shape number (Request moment packet) table holds = answer_shape number moment packet table (refusal_of packet) holds
     step_shape number (Grant moment) table holds = subst R (sym (grant_same number table)) holds
+    step_shape number (Idle moment) table holds = holds

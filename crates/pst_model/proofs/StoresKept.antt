@@ -12,7 +12,7 @@ use Rattle.pst_model.specs.declared.verdicts.Verdict.{Verdict}
 use Rattle.pst_model.specs.Answers.{answer_by, data_in, refusal_of}
 use Rattle.pst_model.specs.Arrivals.{arrive, is_offered, offered}
 use Rattle.pst_model.specs.Changes.{is_named}
-use Rattle.pst_model.specs.Command.{Command, Arrival, Request, Grant}
+use Rattle.pst_model.specs.Command.{Command, Arrival, Request, Grant, Idle}
 use Rattle.pst_model.specs.Instructions.{instruct}
 use Rattle.pst_model.specs.Requests.{items_in}
 use Rattle.pst_model.specs.Rules.{Refused, Step, Taken, at_first, behind_put, free_of, grant_open, grant_range, has_ahead, has_range, is_refused, put, range_sent, to_drop, with_last}
@@ -103,3 +103,4 @@ module _ (Q : (now : ℕ) → Store → Type 0) (kept : IsKept Q) where
   step_keeps blocks number (Arrival moment packet) table all = arrive_keeps number moment packet table all
   step_keeps blocks number (Request moment packet) table all = answer_keeps blocks number moment packet table (refusal_of packet) all
   step_keeps blocks number (Grant moment) table all = range_keeps number table (find has_range table.stores) all
+  step_keeps blocks number (Idle moment) table all = all

@@ -1,16 +1,17 @@
--- What a line says is the command of which it is a written form, or the fault of its packet.
-use Rattle.std.proofs.Common.{◌≡◌, ◌⊎◌, inl, inr, ℕ, ◌+◌, ◌<◌, ◌≤◌, ◌==◌, Bool, true, false, List, [], ◌∷◌, ◌++◌, length, take, drop, get_or, Option, Some, None, Result, Ok, Err, refl, sym, ◌∙◌, ap, subst, arith, append_assoc, length-append}
-use Rattle.std.proofs.lemmas.Bool.{and_from, and_parts, cases_lt, cond-false, cond-true, eq-eqb, eqb-true, le-ltb, ltb-false}
-use Rattle.std.proofs.lemmas.List.{drop_at, drop_more, get_or_at, get_or_past, take-append-drop, take_at}
+-- What a line says is the command of which it is a written form, nothing, or the fault of its packet.
+use Rattle.std.proofs.Common.{◌≡◌, ◌⊎◌, inl, inr, ℕ, ◌≤◌, ◌==◌, Bool, true, false, List, [], ◌∷◌, length, Option, Some, None, Result, Ok, Err, refl, sym, ◌∙◌, ap, subst}
+use Rattle.std.proofs.lemmas.Bool.{cond-false, cond-true, eq-eqb, eqb-true, le-ltb, ltb-false}
 use Rattle.std.specs.Prelude.{◌↔◌, if◌then◌else◌, nat_lt, slice_index}
 use Rattle.hex.specs.Hex.{decode_of}
 use Rattle.hex.specs.declared.error.FromHexError.{FromHexError}
 use Rattle.space_packet.specs.Packet.{fault_of}
 use Rattle.space_packet.specs.declared.fault.PacketFault.{PacketFault}
 use Rattle.space_packet.proofs.Faults.{fault_of-none}
-use Rattle.pst_model.specs.declared.faults.LineFault.TheVariants.{Form, Packet}
-use Rattle.pst_model.specs.Command.{Command, Arrival, Request, Grant}
-use Rattle.pst_model.specs.Forms.{HasGrantForm, HasPacketForm, IsMoment, Spells, begins_with, command_by, command_in, decoded_moment, decoded_packet, grant_in, has_places, moment_in, packet_by, packet_in, packet_line, reading_of}
+use Rattle.pst_model.specs.declared.faults.LineFault.TheVariants.{Form}
+use Rattle.pst_model.specs.Command.{Command, Arrival, Request, Grant, Idle}
+use Rattle.pst_model.specs.Fields.{AreFields, fields_of}
+use Rattle.pst_model.specs.Forms.{HasPacketForm, HasTimedForm, IsMoment, IsSkipped, Reading, SayNothing, Spells, command_by, command_in, decoded_moment, decoded_packet, moment_in, packet_by, packet_in, reading_behind, reading_by, reading_in, reading_of, timed_by, without_return}
+use Rattle.pst_model.proofs.SplitFields.{are_fields, fields_are}
 
 -- moments
 
@@ -57,181 +58,186 @@ packet_cases hex = by (nat_lt (length hex) 2) refl
     by true short = inl (cond-true (nat_lt (length hex) 2) (Err Form) (decoded_packet (decode_of hex)) short)
     by false short = of short (decode_of hex) refl
 
--- a packet's line falls into its parts
-packet_parts : (letter : ℕ) (line : List ℕ) → slice_index line 0 ≡ letter → slice_index line 1 ≡ 32 → slice_index line 14 ≡ 32 → line ≡ letter ∷ 32 ∷ take 12 (drop 2 line) ++ 32 ∷ drop 15 line
-packet_parts letter [] a b c = absurd (omega arith)
-packet_parts letter (first ∷ []) a b c = absurd (omega arith)
-packet_parts letter (first ∷ second ∷ rest) a b c =
-    ap (λ (o : ℕ). o ∷ second ∷ rest) a ∙ ap (λ (o : ℕ). letter ∷ o ∷ rest) b
-    ∙ ap (λ (t : List ℕ). letter ∷ 32 ∷ t) (sym (take-append-drop 12 rest) ∙ ap (λ (t : List ℕ). take 12 rest ++ t) (drop_more rest 12 0 (long (cases_lt 12 (length rest))) ∙ ap (λ (o : ℕ). o ∷ drop 13 rest) c))
-  where
-    long : (12 < length rest) ⊎ (length rest ≤ 12) → 12 < length rest
-    long (inl within) = within
-    long (inr past) = let none : get_or rest 12 0 ≡ 0 = get_or_past rest 12 0 past in absurd (omega (arith, c, none))
-
-grant_parts : (line : List ℕ) → slice_index line 0 ≡ 71 → slice_index line 1 ≡ 32 → line ≡ 71 ∷ 32 ∷ drop 2 line
-grant_parts [] a b = absurd (omega arith)
-grant_parts (first ∷ []) a b = absurd (omega arith)
-grant_parts (first ∷ second ∷ rest) a b = ap (λ (o : ℕ). o ∷ second ∷ rest) a ∙ ap (λ (o : ℕ). 71 ∷ o ∷ rest) b
-
--- the space behind the digits of a packet's line
-space_at : (letter : ℕ) (line : List ℕ) (moment : ℕ) (octets : List ℕ) → HasPacketForm letter line moment octets → slice_index line 14 ≡ 32
-space_at letter line moment octets form =
-    ap (λ (l : List ℕ). slice_index l 14) form.spelled ∙ get_or_at form.digits 32 form.hex 0 12 form.time.count
-
-places : (letter : ℕ) (line : List ℕ) (moment : ℕ) (octets : List ℕ) → HasPacketForm letter line moment octets → has_places letter line ≡ true
-places letter line moment octets form =
-    and_from (begins_with letter line) (slice_index line 14 == 32)
-    (and_from (slice_index line 0 == letter) (slice_index line 1 == 32)
-    (eq-eqb (slice_index line 0) letter (ap (λ (l : List ℕ). slice_index l 0) form.spelled)) (eq-eqb (slice_index line 1) 32 (ap (λ (l : List ℕ). slice_index l 1) form.spelled)))
-    (eq-eqb (slice_index line 14) 32 (space_at letter line moment octets form))
-
--- what its places say
-places_say : (letter : ℕ) (make : ℕ → List ℕ → Command) (line : List ℕ) (moment : ℕ) (octets : List ℕ) → HasPacketForm letter line moment octets → packet_line make line ≡ command_by make moment (packet_by octets (fault_of octets))
-places_say letter make line moment octets form =
-    let digits : take 12 (form.digits ++ 32 ∷ form.hex) ≡ form.digits = take_at form.digits (32 ∷ form.hex) 12 form.time.count in
-    let hex : drop 13 (form.digits ++ 32 ∷ form.hex) ≡ form.hex =
-    ap (drop 13) (sym (append_assoc form.digits (32 ∷ []) form.hex)) ∙ drop_at (form.digits ++ 32 ∷ []) form.hex 13 (length-append form.digits (32 ∷ []) ∙ ap (λ (n : ℕ). n + 1) form.time.count) in
-    ap (packet_line make) form.spelled
-    ∙ ap (λ (d : List ℕ). command_in make (moment_in d) (drop 13 (form.digits ++ 32 ∷ form.hex))) digits
-    ∙ ap (λ (o : Option ℕ). command_in make o (drop 13 (form.digits ++ 32 ∷ form.hex))) (moment_spelled form.digits moment form.time)
-    ∙ ap (λ (h : List ℕ). command_by make moment (packet_in h)) hex
-    ∙ ap (command_by make moment) (packet_spelled form.hex octets (form.some, form.decoded))
-
 -- what lines of each form say
 
-arrival_says : (line : List ℕ) (moment : ℕ) (octets : List ℕ) → HasPacketForm 65 line moment octets → reading_of line ≡ command_by Arrival moment (packet_by octets (fault_of octets))
+packet_says : (letter : ℕ) (make : ℕ → List ℕ → Command) (digits hex : List ℕ) (moment : ℕ) (octets : List ℕ) → IsMoment digits moment → IsHex hex octets
+    → command_in make (moment_in digits) hex ≡ command_by make moment (packet_by octets (fault_of octets))
+packet_says letter make digits hex moment octets time is =
+    ap (λ (o : Option ℕ). command_in make o hex) (moment_spelled digits moment time) ∙ ap (command_by make moment) (packet_spelled hex octets is)
+
+pub arrival_says : (line : List ℕ) (moment : ℕ) (octets : List ℕ) → HasPacketForm 65 line moment octets → reading_of line ≡ command_by Arrival moment (packet_by octets (fault_of octets))
 arrival_says line moment octets form =
-    cond-true (has_places 65 line) (packet_line Arrival line) _ (places 65 line moment octets form) ∙ places_say 65 Arrival line moment octets form
+    ap reading_in (fields_are ((65 ∷ []) ∷ form.digits ∷ form.hex ∷ []) (without_return line) form.fields)
+    ∙ packet_says 65 Arrival form.digits form.hex moment octets form.time (form.some, form.decoded)
 
-request_says : (line : List ℕ) (moment : ℕ) (octets : List ℕ) → HasPacketForm 82 line moment octets → reading_of line ≡ command_by Request moment (packet_by octets (fault_of octets))
+pub request_says : (line : List ℕ) (moment : ℕ) (octets : List ℕ) → HasPacketForm 82 line moment octets → reading_of line ≡ command_by Request moment (packet_by octets (fault_of octets))
 request_says line moment octets form =
-    cond-false (has_places 65 line) (packet_line Arrival line) _ (ap (has_places 65) form.spelled)
-    ∙ cond-true (has_places 82 line) (packet_line Request line) _ (places 82 line moment octets form) ∙ places_say 82 Request line moment octets form
+    ap reading_in (fields_are ((82 ∷ []) ∷ form.digits ∷ form.hex ∷ []) (without_return line) form.fields)
+    ∙ packet_says 82 Request form.digits form.hex moment octets form.time (form.some, form.decoded)
 
-grant_says : (line : List ℕ) (moment : ℕ) → HasGrantForm line moment → reading_of line ≡ Ok (Grant moment)
-grant_says line moment form = ap reading_of form.spelled ∙ ap grant_in (moment_spelled form.digits moment form.time)
+pub grant_says : (line : List ℕ) (moment : ℕ) → HasTimedForm 71 line moment → reading_of line ≡ Ok (Some (Grant moment))
+grant_says line moment form =
+    ap reading_in (fields_are ((71 ∷ []) ∷ form.digits ∷ []) (without_return line) form.fields) ∙ ap (timed_by Grant) (moment_spelled form.digits moment form.time)
 
--- The other way round: a line that says a command or a packet's fault has a form.
+pub idle_says : (line : List ℕ) (moment : ℕ) → HasTimedForm 73 line moment → reading_of line ≡ Ok (Some (Idle moment))
+idle_says line moment form =
+    ap reading_in (fields_are ((73 ∷ []) ∷ form.digits ∷ []) (without_return line) form.fields) ∙ ap (timed_by Idle) (moment_spelled form.digits moment form.time)
+
+nothing_says : (fields : List (List ℕ)) → SayNothing fields → reading_in fields ≡ Ok None
+nothing_says [] nothing = refl
+nothing_says (first ∷ others) nothing = cond-true (slice_index first 0 == 35) (Ok None) (reading_behind first others) (eq-eqb (slice_index first 0) 35 nothing)
+
+pub skipped_says : (line : List ℕ) → IsSkipped line → reading_of line ≡ Ok None
+skipped_says line is = ap reading_in (fields_are is.fields (without_return line) is.are) ∙ nothing_says is.fields is.nothing
+
+-- The other way round: what a line says tells its form.
 
 abbrev HasPacket : ℕ → List ℕ → Type 0
 HasPacket letter line = (moment : ℕ) × (octets : List ℕ) × HasPacketForm letter line moment octets
 
--- a line says that it has no form, or it has one
-data Says (line : List ℕ) : Type 0 where
+-- a line says nothing, or that it has no form, or it has one
+pub data Says (line : List ℕ) : Type 0 where
+  skipped : IsSkipped line → Says line
   no_form : reading_of line ≡ Err Form → Says line
   arrival : HasPacket 65 line → Says line
   request : HasPacket 82 line → Says line
-  granted : (moment : ℕ) → HasGrantForm line moment → Says line
+  granted : (moment : ℕ) → HasTimedForm 71 line moment → Says line
+  idle : (moment : ℕ) → HasTimedForm 73 line moment → Says line
 
--- the places of a packet's line say that it has no form, or it has one
-as_packet : (letter : ℕ) (make : ℕ → List ℕ → Command) (line : List ℕ) → has_places letter line ≡ true → (packet_line make line ≡ Err Form) ⊎ HasPacket letter line
-as_packet letter make line is = by (moment_cases (take 12 (drop 2 line))) (packet_cases (drop 15 line))
-  where
-    by : ((moment_in (take 12 (drop 2 line)) ≡ None) ⊎ ((moment : ℕ) × IsMoment (take 12 (drop 2 line)) moment)) → ((packet_in (drop 15 line) ≡ Err Form) ⊎ ((octets : List ℕ) × IsHex (drop 15 line) octets)) → (packet_line make line ≡ Err Form) ⊎ HasPacket letter line
-    by (inl none) hex = inl (ap (λ (o : Option ℕ). command_in make o (drop 15 line)) none)
-    by (inr time) (inl none) = inl (ap (λ (o : Option ℕ). command_in make o (drop 15 line)) (moment_spelled (take 12 (drop 2 line)) time.0 time.1) ∙ ap (command_by make time.0) none)
-    by (inr time) (inr hex) =
-        let all = and_parts (begins_with letter line) (slice_index line 14 == 32) is in
-        let two = and_parts (slice_index line 0 == letter) (slice_index line 1 == 32) all.0 in
-        inr (
-          time.0,
-          hex.0,
-          record {
-            digits = take 12 (drop 2 line);
-            hex = drop 15 line;
-            spelled = packet_parts letter line (eqb-true (slice_index line 0) letter two.0) (eqb-true (slice_index line 1) 32 two.1) (eqb-true (slice_index line 14) 32 all.1);
-            time = time.1;
-            some = hex.1.0;
-            decoded = hex.1.1;
-          },
-        )
+module _ (line : List ℕ) where
+  abbrev Has : List (List ℕ) → Type 0
+  Has fields = AreFields fields (without_return line)
 
-as_grant : (line : List ℕ) → begins_with 71 line ≡ true → (grant_in (moment_in (drop 2 line)) ≡ Err Form) ⊎ ((moment : ℕ) × HasGrantForm line moment)
-as_grant line is = by (moment_cases (drop 2 line))
-  where
-    by : ((moment_in (drop 2 line) ≡ None) ⊎ ((moment : ℕ) × IsMoment (drop 2 line) moment)) → (grant_in (moment_in (drop 2 line)) ≡ Err Form) ⊎ ((moment : ℕ) × HasGrantForm line moment)
-    by (inl none) = inl (ap grant_in none)
-    by (inr time) =
-        let two = and_parts (slice_index line 0 == 71) (slice_index line 1 == 32) is in
-        inr (time.0, record { digits = drop 2 line; spelled = grant_parts line (eqb-true (slice_index line 0) 71 two.0) (eqb-true (slice_index line 1) 32 two.1); time = time.1 })
+  as_packet : (letter : ℕ) (make : ℕ → List ℕ → Command) (digits hex : List ℕ) → Has ((letter ∷ []) ∷ digits ∷ hex ∷ [])
+      → (command_in make (moment_in digits) hex ≡ Err Form) ⊎ HasPacket letter line
+  as_packet letter make digits hex are = by (moment_cases digits) (packet_cases hex)
+    where
+      by : ((moment_in digits ≡ None) ⊎ ((moment : ℕ) × IsMoment digits moment)) → ((packet_in hex ≡ Err Form) ⊎ ((octets : List ℕ) × IsHex hex octets))
+          → (command_in make (moment_in digits) hex ≡ Err Form) ⊎ HasPacket letter line
+      by (inl none) octets = inl (ap (λ (o : Option ℕ). command_in make o hex) none)
+      by (inr time) (inl none) = inl (ap (λ (o : Option ℕ). command_in make o hex) (moment_spelled digits time.0 time.1) ∙ ap (command_by make time.0) none)
+      by (inr time) (inr octets) =
+          inr (time.0, octets.0, record { digits = digits; hex = hex; fields = are; time = time.1; some = octets.1.0; decoded = octets.1.1 })
 
-says : (line : List ℕ) → Says line
-says line = by (has_places 65 line) (has_places 82 line) (begins_with 71 line) refl refl refl
-  where
-    -- what the tests leave of the reading
-    by_tests : (arrives requests grants : Bool) → has_places 65 line ≡ arrives → has_places 82 line ≡ requests → begins_with 71 line ≡ grants
-        → reading_of line ≡ (if arrives then packet_line Arrival line else if requests then packet_line Request line else if grants then grant_in (moment_in (drop 2 line)) else Err Form)
-    by_tests arrives requests grants a r g =
-        ap (λ (t : Bool). if t then packet_line Arrival line else if has_places 82 line then packet_line Request line else if begins_with 71 line then grant_in (moment_in (drop 2 line)) else Err Form) a
-        ∙ ap (λ (t : Bool). if arrives then packet_line Arrival line else if t then packet_line Request line else if begins_with 71 line then grant_in (moment_in (drop 2 line)) else Err Form) r
-        ∙ ap (λ (t : Bool). if arrives then packet_line Arrival line else if requests then packet_line Request line else if t then grant_in (moment_in (drop 2 line)) else Err Form) g
+  as_timed : (letter : ℕ) (make : ℕ → Command) (digits : List ℕ) → Has ((letter ∷ []) ∷ digits ∷ [])
+      → (timed_by make (moment_in digits) ≡ Err Form) ⊎ ((moment : ℕ) × HasTimedForm letter line moment)
+  as_timed letter make digits are = by (moment_cases digits)
+    where
+      by : ((moment_in digits ≡ None) ⊎ ((moment : ℕ) × IsMoment digits moment)) → (timed_by make (moment_in digits) ≡ Err Form) ⊎ ((moment : ℕ) × HasTimedForm letter line moment)
+      by (inl none) = inl (ap (timed_by make) none)
+      by (inr time) = inr (time.0, record { digits = digits; fields = are; time = time.1 })
 
-    arrives_as : reading_of line ≡ packet_line Arrival line → (packet_line Arrival line ≡ Err Form) ⊎ HasPacket 65 line → Says line
-    arrives_as reading (inl none) = no_form (reading ∙ none)
-    arrives_as reading (inr has) = arrival has
+  from_arrival : {reading : Reading} → reading_of line ≡ reading → (reading ≡ Err Form) ⊎ HasPacket 65 line → Says line
+  from_arrival is (inl none) = no_form (is ∙ none)
+  from_arrival is (inr has) = arrival has
 
-    requests_as : reading_of line ≡ packet_line Request line → (packet_line Request line ≡ Err Form) ⊎ HasPacket 82 line → Says line
-    requests_as reading (inl none) = no_form (reading ∙ none)
-    requests_as reading (inr has) = request has
+  from_request : {reading : Reading} → reading_of line ≡ reading → (reading ≡ Err Form) ⊎ HasPacket 82 line → Says line
+  from_request is (inl none) = no_form (is ∙ none)
+  from_request is (inr has) = request has
 
-    grants_as : reading_of line ≡ grant_in (moment_in (drop 2 line)) → (grant_in (moment_in (drop 2 line)) ≡ Err Form) ⊎ ((moment : ℕ) × HasGrantForm line moment) → Says line
-    grants_as reading (inl none) = no_form (reading ∙ none)
-    grants_as reading (inr has) = granted has.0 has.1
+  from_grant : {reading : Reading} → reading_of line ≡ reading → (reading ≡ Err Form) ⊎ ((moment : ℕ) × HasTimedForm 71 line moment) → Says line
+  from_grant is (inl none) = no_form (is ∙ none)
+  from_grant is (inr has) = granted has.0 has.1
 
-    by : (arrives requests grants : Bool) → has_places 65 line ≡ arrives → has_places 82 line ≡ requests → begins_with 71 line ≡ grants → Says line
-    by true requests grants a r g = arrives_as (by_tests true requests grants a r g) (as_packet 65 Arrival line a)
-    by false true grants a r g = requests_as (by_tests false true grants a r g) (as_packet 82 Request line r)
-    by false false true a r g = grants_as (by_tests false false true a r g) (as_grant line g)
-    by false false false a r g = no_form (by_tests false false false a r g)
+  from_idle : {reading : Reading} → reading_of line ≡ reading → (reading ≡ Err Form) ⊎ ((moment : ℕ) × HasTimedForm 73 line moment) → Says line
+  from_idle is (inl none) = no_form (is ∙ none)
+  from_idle is (inr has) = idle has.0 has.1
+
+  timed_as : (letter : ℕ) (digits : List ℕ) → Has ((letter ∷ []) ∷ digits ∷ []) → reading_of line ≡ reading_by letter (digits ∷ []) → Says line
+  timed_as letter digits are is = by (letter == 71) (letter == 73) refl refl
+    where
+      by : (grants idles : Bool) → (letter == 71) ≡ grants → (letter == 73) ≡ idles → Says line
+      by true idles g i =
+          from_grant (is ∙ cond-true (letter == 71) (timed_by Grant (moment_in digits)) _ g)
+          (as_timed 71 Grant digits (subst (λ (l : ℕ). Has ((l ∷ []) ∷ digits ∷ [])) (eqb-true letter 71 g) are))
+      by false true g i =
+          from_idle (is ∙ cond-false (letter == 71) (timed_by Grant (moment_in digits)) _ g ∙ cond-true (letter == 73) (timed_by Idle (moment_in digits)) (Err Form) i)
+          (as_timed 73 Idle digits (subst (λ (l : ℕ). Has ((l ∷ []) ∷ digits ∷ [])) (eqb-true letter 73 i) are))
+      by false false g i =
+          no_form (is ∙ cond-false (letter == 71) (timed_by Grant (moment_in digits)) _ g ∙ cond-false (letter == 73) (timed_by Idle (moment_in digits)) (Err Form) i)
+
+  packet_as : (letter : ℕ) (digits hex : List ℕ) → Has ((letter ∷ []) ∷ digits ∷ hex ∷ []) → reading_of line ≡ reading_by letter (digits ∷ hex ∷ []) → Says line
+  packet_as letter digits hex are is = by (letter == 65) (letter == 82) refl refl
+    where
+      by : (arrives requests : Bool) → (letter == 65) ≡ arrives → (letter == 82) ≡ requests → Says line
+      by true requests a r =
+          from_arrival (is ∙ cond-true (letter == 65) (command_in Arrival (moment_in digits) hex) _ a)
+          (as_packet 65 Arrival digits hex (subst (λ (l : ℕ). Has ((l ∷ []) ∷ digits ∷ hex ∷ [])) (eqb-true letter 65 a) are))
+      by false true a r =
+          from_request
+          (is ∙ cond-false (letter == 65) (command_in Arrival (moment_in digits) hex) _ a ∙ cond-true (letter == 82) (command_in Request (moment_in digits) hex) (Err Form) r)
+          (as_packet 82 Request digits hex (subst (λ (l : ℕ). Has ((l ∷ []) ∷ digits ∷ hex ∷ [])) (eqb-true letter 82 r) are))
+      by false false a r =
+          no_form (is ∙ cond-false (letter == 65) (command_in Arrival (moment_in digits) hex) _ a ∙ cond-false (letter == 82) (command_in Request (moment_in digits) hex) (Err Form) r)
+
+  letter_as : (letter : ℕ) (others : List (List ℕ)) → Has ((letter ∷ []) ∷ others) → reading_of line ≡ reading_by letter others → Says line
+  letter_as letter [] are is = no_form is
+  letter_as letter (digits ∷ []) are is = timed_as letter digits are is
+  letter_as letter (digits ∷ hex ∷ []) are is = packet_as letter digits hex are is
+  letter_as letter (digits ∷ hex ∷ more ∷ others) are is = no_form is
+
+  first_as : (first : List ℕ) (others : List (List ℕ)) → Has (first ∷ others) → reading_of line ≡ reading_behind first others → Says line
+  first_as [] others are is = no_form is
+  first_as (letter ∷ []) others are is = letter_as letter others are is
+  first_as (letter ∷ next ∷ rest) others are is = no_form is
+
+  fields_as : (fields : List (List ℕ)) → Has fields → reading_of line ≡ reading_in fields → Says line
+  fields_as [] are is = skipped (record { fields = []; are = are; nothing = tt })
+  fields_as (first ∷ others) are is = by (slice_index first 0 == 35) refl
+    where
+      by : (comment : Bool) → (slice_index first 0 == 35) ≡ comment → Says line
+      by true c = skipped (record { fields = first ∷ others; are = are; nothing = eqb-true (slice_index first 0) 35 c })
+      by false c = first_as first others are (is ∙ cond-false (slice_index first 0 == 35) (Ok None) (reading_behind first others) c)
+
+  pub says : Says line
+  says = fields_as (fields_of (without_return line)) (are_fields (without_return line)) refl
 
 -- A line says the command of which it is a written form.
 
 -- the command of a packet that has no fault
-made_if : (line : List ℕ) (make : ℕ → List ℕ → Command) (moment : ℕ) (octets : List ℕ) (command : Command) (fault : Option PacketFault)
-    → fault_of octets ≡ fault → command_by make moment (packet_by octets fault) ≡ Ok command → (make moment octets ≡ command) × (fault_of octets ≡ None)
-made_if line make moment octets command (Some fault) faulty says = absurd cc
-made_if line make moment octets command None whole says = let same : make moment octets ≡ command = cc in (same, whole)
+made_if : (make : ℕ → List ℕ → Command) (moment : ℕ) (octets : List ℕ) (command : Command) (fault : Option PacketFault)
+    → fault_of octets ≡ fault → command_by make moment (packet_by octets fault) ≡ Ok (Some command) → (make moment octets ≡ command) × (fault_of octets ≡ None)
+made_if make moment octets command (Some fault) faulty says = absurd cc
+made_if make moment octets command None whole says = let same : make moment octets ≡ command = cc in (same, whole)
 
-spells_if : (line : List ℕ) (command : Command) → reading_of line ≡ Ok command → Says line → Spells line command
-spells_if line command is (no_form none) = let no : Err Form ≡ Ok command = sym none ∙ is in absurd cc
+spells_if : (line : List ℕ) (command : Command) → reading_of line ≡ Ok (Some command) → Says line → Spells line command
+spells_if line command is (skipped none) = let no : Ok None ≡ Ok (Some command) = sym (skipped_says line none) ∙ is in absurd cc
+spells_if line command is (no_form none) = let no : Err Form ≡ Ok (Some command) = sym none ∙ is in absurd cc
 spells_if line command is (arrival has) =
-    let made = made_if line Arrival has.0 has.1 command (fault_of has.1) refl (sym (arrival_says line has.0 has.1 has.2) ∙ is) in
+    let made = made_if Arrival has.0 has.1 command (fault_of has.1) refl (sym (arrival_says line has.0 has.1 has.2) ∙ is) in
     subst (Spells line) made.0 (has.2, (fault_of-none has.1).0 made.1)
 spells_if line command is (request has) =
-    let made = made_if line Request has.0 has.1 command (fault_of has.1) refl (sym (request_says line has.0 has.1 has.2) ∙ is) in
+    let made = made_if Request has.0 has.1 command (fault_of has.1) refl (sym (request_says line has.0 has.1 has.2) ∙ is) in
     subst (Spells line) made.0 (has.2, (fault_of-none has.1).0 made.1)
-spells_if line command is (granted moment form) = let e : Ok (Grant moment) ≡ Ok command = sym (grant_says line moment form) ∙ is in let same : Grant moment ≡ command = cc in subst (Spells line) same form
+spells_if line command is (granted moment form) =
+    let e : Ok (Some (Grant moment)) ≡ Ok (Some command) = sym (grant_says line moment form) ∙ is in let same : Grant moment ≡ command = cc in subst (Spells line) same form
+spells_if line command is (idle moment form) =
+    let e : Ok (Some (Idle moment)) ≡ Ok (Some command) = sym (idle_says line moment form) ∙ is in let same : Idle moment ≡ command = cc in subst (Spells line) same form
 
-spelled_says : (line : List ℕ) (command : Command) → Spells line command → reading_of line ≡ Ok command
+spelled_says : (line : List ℕ) (command : Command) → Spells line command → reading_of line ≡ Ok (Some command)
 spelled_says line (Arrival moment packet) spells =
     arrival_says line moment packet spells.0 ∙ ap (λ (o : Option PacketFault). command_by Arrival moment (packet_by packet o)) ((fault_of-none packet).1 spells.1)
 spelled_says line (Request moment packet) spells =
     request_says line moment packet spells.0 ∙ ap (λ (o : Option PacketFault). command_by Request moment (packet_by packet o)) ((fault_of-none packet).1 spells.1)
 spelled_says line (Grant moment) spells = grant_says line moment spells
+spelled_says line (Idle moment) spells = idle_says line moment spells
 
-pub reading_of-spells : (line : List ℕ) (command : Command) → (reading_of line ≡ Ok command) ↔ Spells line command
+pub reading_of-spells : (line : List ℕ) (command : Command) → (reading_of line ≡ Ok (Some command)) ↔ Spells line command
 reading_of-spells line command = (λ is. spells_if line command is (says line), spelled_says line command)
 
--- It says the fault of its packet where it has the form of an arrival or of a request.
+-- It says nothing where it has no field or is a comment.
 
-abbrev pub HasFault : List ℕ → PacketFault → Type 0
-HasFault line fault = (moment : ℕ) × (octets : List ℕ) × (HasPacketForm 65 line moment octets ⊎ HasPacketForm 82 line moment octets) × (fault_of octets ≡ Some fault)
+pub packet_reads : (make : ℕ → List ℕ → Command) (moment : ℕ) (octets : List ℕ) (fault : Option PacketFault) → command_by make moment (packet_by octets fault) ≡ Ok None → ⊥
+packet_reads make moment octets None is = cc
+packet_reads make moment octets (Some fault) is = cc
 
-fault_if : (make : ℕ → List ℕ → Command) (moment : ℕ) (octets : List ℕ) (fault : PacketFault) (found : Option PacketFault)
-    → fault_of octets ≡ found → command_by make moment (packet_by octets found) ≡ Err (Packet fault) → fault_of octets ≡ Some fault
-fault_if make moment octets fault (Some found) faulty says = let same : found ≡ fault = cc in faulty ∙ ap Some same
-fault_if make moment octets fault None whole says = absurd cc
+skipped_if : (line : List ℕ) → reading_of line ≡ Ok None → Says line → IsSkipped line
+skipped_if line is (skipped none) = none
+skipped_if line is (no_form none) = let no : Err Form ≡ Ok None = sym none ∙ is in absurd cc
+skipped_if line is (arrival has) = absurd (packet_reads Arrival has.0 has.1 (fault_of has.1) (sym (arrival_says line has.0 has.1 has.2) ∙ is))
+skipped_if line is (request has) = absurd (packet_reads Request has.0 has.1 (fault_of has.1) (sym (request_says line has.0 has.1 has.2) ∙ is))
+skipped_if line is (granted moment form) = let no : Ok (Some (Grant moment)) ≡ Ok None = sym (grant_says line moment form) ∙ is in absurd cc
+skipped_if line is (idle moment form) = let no : Ok (Some (Idle moment)) ≡ Ok None = sym (idle_says line moment form) ∙ is in absurd cc
 
-faulty_if : (line : List ℕ) (fault : PacketFault) → reading_of line ≡ Err (Packet fault) → Says line → HasFault line fault
-faulty_if line fault is (no_form none) = let no : Err Form ≡ Err (Packet fault) = sym none ∙ is in absurd cc
-faulty_if line fault is (arrival has) = (has.0, has.1, inl has.2, fault_if Arrival has.0 has.1 fault (fault_of has.1) refl (sym (arrival_says line has.0 has.1 has.2) ∙ is))
-faulty_if line fault is (request has) = (has.0, has.1, inr has.2, fault_if Request has.0 has.1 fault (fault_of has.1) refl (sym (request_says line has.0 has.1 has.2) ∙ is))
-faulty_if line fault is (granted moment form) = let no : Ok (Grant moment) ≡ Err (Packet fault) = sym (grant_says line moment form) ∙ is in absurd cc
-
-faulty_by : (line : List ℕ) (fault : PacketFault) (moment : ℕ) (octets : List ℕ) → HasPacketForm 65 line moment octets ⊎ HasPacketForm 82 line moment octets → fault_of octets ≡ Some fault → reading_of line ≡ Err (Packet fault)
-faulty_by line fault moment octets (inl form) is = arrival_says line moment octets form ∙ ap (λ (o : Option PacketFault). command_by Arrival moment (packet_by octets o)) is
-faulty_by line fault moment octets (inr form) is = request_says line moment octets form ∙ ap (λ (o : Option PacketFault). command_by Request moment (packet_by octets o)) is
-
-pub reading_of-faulty : (line : List ℕ) (fault : PacketFault) → (reading_of line ≡ Err (Packet fault)) ↔ HasFault line fault
-reading_of-faulty line fault = (λ is. faulty_if line fault is (says line), λ has. faulty_by line fault has.0 has.1 has.2 has.3)
+pub reading_of-skipped : (line : List ℕ) → (reading_of line ≡ Ok None) ↔ IsSkipped line
+reading_of-skipped line = (λ is. skipped_if line is (says line), skipped_says line)

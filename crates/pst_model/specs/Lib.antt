@@ -6,6 +6,7 @@ pub mod Command
 pub mod Contents
 pub mod Copies
 pub mod Failures
+pub mod Fields
 pub mod Forms
 pub mod Instructions
 pub mod Items

@@ -2,7 +2,7 @@
 use Rattle.std.specs.Prelude.{ℕ, ◌+◌, List, [], ◌∷◌, ◌++◌}
 use Rattle.pst_model.specs.Answers.{answer}
 use Rattle.pst_model.specs.Arrivals.{arrive}
-use Rattle.pst_model.specs.Command.{Command, Arrival, Request, Grant}
+use Rattle.pst_model.specs.Command.{Command, Arrival, Request, Grant, Idle}
 use Rattle.pst_model.specs.Output.{output_line}
 use Rattle.pst_model.specs.Replies.{behind_outputs}
 use Rattle.pst_model.specs.Rules.{Output, Step, grant}
@@ -13,6 +13,7 @@ abbrev pub step : (blocks number : ℕ) → Command → Table → Step
 step blocks number (Arrival moment packet) table = arrive number moment packet table
 step blocks number (Request moment packet) table = answer blocks number moment packet table
 step blocks number (Grant moment) table = grant number table
+step blocks number (Idle moment) table = record { table = table; outputs = [] }
 
 -- the run of commands, the first of which has this number
 abbrev pub run_from : (blocks number : ℕ) → Table → List Command → Step

@@ -1,9 +1,9 @@
 -- A session text: its lines, the commands that they are, and the first bad one.
-use Rattle.std.specs.Prelude.{◌≡◌, ◌≢◌, ◌⊎◌, ⊤, ℕ, ◌+◌, ◌==◌, ◌&&◌, nat_le, Bool, true, false, if◌then◌else◌, List, [], ◌∷◌, ◌++◌, length, filter, Contains, IsTrue, Option, Some, None, Result, Ok, Err}
+use Rattle.std.specs.Prelude.{◌≡◌, ◌≢◌, ◌⊎◌, ⊤, ℕ, ◌+◌, ◌==◌, ◌<◌, ◌≤◌, nat_lt, min, Bool, true, false, if◌then◌else◌, List, [], ◌∷◌, ◌++◌, length, filter, Contains, IsTrue, Option, Some, None, Ok, Err}
 use Rattle.pst_model.specs.declared.faults.LineFault.{LineFault}
-use Rattle.pst_model.specs.declared.faults.LineFault.TheVariants.{Form}
+use Rattle.pst_model.specs.declared.faults.LineFault.TheVariants.{TextLimit, LongLine}
 use Rattle.pst_model.specs.Command.{Command}
-use Rattle.pst_model.specs.Forms.{reading_of}
+use Rattle.pst_model.specs.Forms.{Reading, reading_of}
 
 -- A line: its octets without the LF, and whether the LF is there. Only the last line may lack it.
 pub record Line : Type 0 where
@@ -39,20 +39,29 @@ AreLines (line ∷ lines) =
     ¬ (Contains line.octets 10) × (IsTrue line.ended ⊎ ((line.octets ≢ []) × (lines ≡ [])))
     × AreLines lines
 
--- Whether a line that begins at this place of the text has at most 131,200 octets without its LF,
--- and lies with it among the first octets of the text, as many as the limit says.
-abbrev pub is_within : (limit place : ℕ) → Line → Bool
-is_within limit place line =
-    nat_le (length line.octets) 131200 && nat_le (place + size_of line) limit
+-- The text is cut off within a line that begins at this place: among the first 131,201 octets of the
+-- line, its LF with them, there is one that is not among the first octets of the text, as many as
+-- the limit says.
+abbrev pub IsCut : (limit place : ℕ) → Line → Type 0
+IsCut limit place line =
+    (at : ℕ) × (at < size_of line) × (at < 131201) × (limit ≤ place + at)
 
--- what a line at this place says
-abbrev pub line_reading : (limit place : ℕ) → Line → Result Command LineFault
+-- the same as a test, which computes
+abbrev pub is_cut : (limit place : ℕ) → Line → Bool
+is_cut limit place line = nat_lt limit (place + min (size_of line) 131201)
+
+-- What a line at this place says. The limits are looked at first, also of a line that says nothing.
+abbrev pub line_reading : (limit place : ℕ) → Line → Reading
 line_reading limit place line =
-    if line.ended && is_within limit place line then reading_of line.octets else Err Form
+    if is_cut limit place line then Err TextLimit
+    else if nat_lt 131200 (length line.octets) then Err LongLine
+    else reading_of line.octets
 
--- a command in front of those behind it, and none behind a bad line
-abbrev pub behind_reading : Result Command LineFault → List Command → List Command
-behind_reading (Ok command) commands = command ∷ commands
+-- A command in front of those behind it. A line that says nothing has none, and none count behind
+-- a bad line.
+abbrev pub behind_reading : Reading → List Command → List Command
+behind_reading (Ok (Some command)) commands = command ∷ commands
+behind_reading (Ok None) commands = commands
 behind_reading (Err why) commands = []
 
 -- the commands of lines up to the first bad one, where the first line is at this place
@@ -62,9 +71,8 @@ commands_from limit place (line ∷ lines) =
     behind_reading (line_reading limit place line)
     (commands_from limit (place + size_of line) lines)
 
-abbrev pub bad_by : (number : ℕ) → Result Command LineFault → Option (ℕ × LineFault)
-    → Option (ℕ × LineFault)
-bad_by number (Ok command) behind = behind
+abbrev pub bad_by : (number : ℕ) → Reading → Option (ℕ × LineFault) → Option (ℕ × LineFault)
+bad_by number (Ok said) behind = behind
 bad_by number (Err why) behind = Some (number, why)
 
 -- the number of the first bad line and its fault, where the first line is at this place and has
@@ -83,39 +91,15 @@ commands_of limit text = commands_from limit 0 (lines_in text)
 abbrev pub first_bad : (limit : ℕ) → List ℕ → Option (ℕ × LineFault)
 first_bad limit text = first_bad_from limit 0 1 (lines_in text)
 
--- the whole lines of the octets that were taken
+-- the lines of the octets that were taken whose LF was taken too
 abbrev pub whole_lines : List ℕ → List Line
 whole_lines taken = filter (λ (line : Line). line.ended) (lines_in taken)
 
--- The commands read: those of the whole lines in the octets that were taken, up to the first bad
--- one.
+-- The commands read, where the end of the text was not seen: those of the lines in the octets that
+-- were taken whose LF was taken too, up to the first bad one.
 abbrev pub commands_read : (limit : ℕ) → List ℕ → List Command
 commands_read limit taken = commands_from limit 0 (whole_lines taken)
 
--- the first bad one of the whole lines in the octets that were taken
+-- the first bad one of these lines
 abbrev pub bad_read : (limit : ℕ) → List ℕ → Option (ℕ × LineFault)
 bad_read limit taken = first_bad_from limit 0 1 (whole_lines taken)
-
--- What comes next in a text: a command with the octets that its line takes, a bad line, or the end.
-pub data Next : Type 0 where
-  Read : Command → (size : ℕ) → Next
-  Bad : LineFault → Next
-  End : Next
-
-abbrev pub next_by : (size : ℕ) → Result Command LineFault → Next
-next_by size (Ok command) = Read command size
-next_by size (Err why) = Bad why
-
-abbrev pub next_in : (limit place : ℕ) → List Line → Next
-next_in limit place [] = End
-next_in limit place (line ∷ lines) = next_by (size_of line) (line_reading limit place line)
-
--- what comes next in the text from this place on
-abbrev pub next_of : (limit place : ℕ) → List ℕ → Next
-next_of limit place text = next_in limit place (lines_in text)
-
--- the octets that what comes next takes, a bad line none
-abbrev pub size_of_next : Next → ℕ
-size_of_next (Read command size) = size
-size_of_next (Bad why) = 0
-size_of_next End = 0

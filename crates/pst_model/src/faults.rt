@@ -1,13 +1,19 @@
-// Why a line is no command, and why the data of a telecommand is no request.
+// Why a line is bad, and why the data of a telecommand is no request.
 
 use space_packet::PacketFault;
 use thiserror::Error;
 
-/// Why a line is no command.
+/// Why a line is bad: the first of these that holds, in this order.
 #[derive(Clone, Copy, Debug, PartialEq, Eq, Error)]
 pub enum LineFault {
-    /// The line has none of the known forms, or is longer than 131,200 octets, or ends past the
-    /// limit of the text.
+    /// Among the first 131,201 octets of the line, its LF with them, there is one past the limit of
+    /// the text.
+    #[error("text too long")]
+    TextLimit,
+    /// The line has more than 131,200 octets without its LF.
+    #[error("line too long")]
+    LongLine,
+    /// Its fields are those of none of the known forms.
     #[error("no known form")]
     Form,
     /// Its octets are no packet.

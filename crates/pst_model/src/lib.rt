@@ -25,5 +25,5 @@ pub use table::{
     behind_stays_within, circular_stores_refuse_only_larger, failed_instructions_change_nothing,
     fewest_leave, reports_are_counted, runs_in_turn,
 };
-pub use text::{lines_of_text, written_forms};
+pub use text::{fields_of_a_line, limits_of_a_line, lines_of_text, written_forms};
 pub use verdicts::Verdict;
