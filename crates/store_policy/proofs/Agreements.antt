@@ -6,22 +6,15 @@ use Rattle.pst_model.specs.Changes.{change_store, is_named, of_store, where_foun
 use Rattle.pst_model.specs.Failures.{unless}
 use Rattle.pst_model.specs.Table.{Store, Table}
 use Rattle.store_directory.specs.declared.row.Row.{Row}
-use Rattle.store_policy.specs.Agreement.{Agrees, IsPlain, first_failure}
+use Rattle.store_policy.specs.Agreement.{Agrees}
+use Rattle.store_policy.specs.Checks.{first_failure}
 use Rattle.store_policy.specs.Codes.{code_of}
 use Rattle.store_policy.specs.Found.{IsRowOf, IsShownBy, IsUnknown}
 use Rattle.store_policy.specs.Shown.{IsTableShown}
 use Rattle.store_policy.specs.declared.refusal.Refusal.{Refusal}
 use Rattle.store_policy.specs.declared.view.View.{View}
 
--- An instruction on a store that does not stand.
-pub unknown-agrees : (view : View) (identifier : ℕ) (told : Refusal) → IsUnknown view identifier told → (table : Table) → IsTableShown table view
-    → (outcome : Store → Result Table ℕ) → Agrees (Err told) (of_store identifier table outcome)
-unknown-agrees view identifier told unknown table shown outcome = rw (unknown.refusal, unknown.absent table shown) refl
-
-pub unknown-plain : (view : View) (identifier : ℕ) (told : Refusal) → IsUnknown view identifier told → IsPlain told
-unknown-plain view identifier told unknown = rw unknown.refusal tt
-
--- One on a store that stands.
+-- An instruction on a store that stands.
 pub found-agrees : (identifier : ℕ) (table : Table) (outcome : Store → Result Table ℕ) (result : Result (Unit {0}) Refusal) (P : Store → Type 0)
     → IsSomeAnd (find (is_named identifier) table.stores) P → ((store : Store) → find (is_named identifier) table.stores ≡ Some store → P store → Agrees result (outcome store))
     → Agrees result (of_store identifier table outcome)
@@ -52,19 +45,6 @@ checks-agree {X} checks model outcome is = subst (λ (m : List (Bool × ℕ)). A
             → Agrees (first_failure (check ∷ cs)) (unless (map coded (check ∷ cs)) outcome)
         by true is rest = rw is refl
         by false is rest = rw is rest
-
--- Refusals by these checks have no numbers.
-abbrev pub ArePlain : List (Bool × Refusal) → Type 0
-ArePlain [] = ⊤
-ArePlain (check ∷ checks) = IsPlain check.1 × ArePlain checks
-
-pub checks-plain : (checks : List (Bool × Refusal)) → ArePlain checks → IfErr (first_failure checks) IsPlain
-checks-plain [] plain = tt
-checks-plain (check ∷ checks) plain = by check.0 refl (checks-plain checks plain.1)
-  where
-    by : (fails : Bool) → check.0 ≡ fails → IfErr (first_failure checks) IsPlain → IfErr (first_failure (check ∷ checks)) IsPlain
-    by true is rest = rw is plain.0
-    by false is rest = rw is rest
 
 -- Where a check is the first one that fails, its refusal is such.
 abbrev pub AreTold : (Refusal → Type 0) → List (Bool × Refusal) → Type 0

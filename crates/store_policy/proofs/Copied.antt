@@ -13,7 +13,7 @@ use Rattle.pst_model.specs.Ranges.{window_of}
 use Rattle.pst_model.specs.Table.{Stored, content_in}
 use Rattle.pst_model.proofs.Windows.{window}
 use Rattle.store_policy.specs.Shown.{AreIndexed, length_of, octets_in}
-use Rattle.store_policy.specs.Windows.{entries_between}
+use Rattle.store_policy.specs.Checks.{entries_between}
 use Rattle.store_policy.proofs.Stored.{content-sum, packets-counted, pages-sum}
 use Rattle.time_index.specs.TimeIndex.{IsInOrder, count_below, count_up_to, pages_of, stamp_of}
 use Rattle.time_index.specs.declared.entry.Entry.{Entry}
@@ -44,7 +44,7 @@ module _ (packets : List Stored) (entries : List Entry) (shown : AreIndexed pack
   between-content : (n m : ℕ) → content_in (take n (drop m packets)) ≡ pages_of (take n (drop m entries))
   between-content n m =
       content-sum (take n (drop m packets))
-      ∙ ap (sum_by charge_of) (sym (take-map octets_in n (drop m packets) ) ∙ ap (take n) (sym (drop-map octets_in m packets) ∙ ap (drop m) shown.lengths ∙ drop-map length_of m entries) ∙ take-map length_of n (drop m entries))
+      ∙ ap (sum_by charge_of) (sym (take-map octets_in n (drop m packets)) ∙ ap (take n) (sym (drop-map octets_in m packets) ∙ ap (drop m) shown.lengths ∙ drop-map length_of m entries) ∙ take-map length_of n (drop m entries))
       ∙ sym (pages-sum (take n (drop m entries)))
 
   in-order : IsInOrder entries → IsNonDecreasingBy time_of packets

@@ -10,10 +10,10 @@ use Rattle.pst_model.specs.Ranges.{window_of}
 use Rattle.pst_model.specs.Table.{Store, Stored, Table, content_in}
 use Rattle.pst_model.proofs.Shapes.{found_passes}
 use Rattle.store_directory.specs.declared.row.Row.{Row}
-use Rattle.store_policy.specs.Agreement.{Agrees, Tells, first_failure}
+use Rattle.store_policy.specs.Agreement.{Agrees, Tells}
 use Rattle.store_policy.specs.Found.{IsPairOf}
 use Rattle.store_policy.specs.Shown.{IsShown, IsTableShown}
-use Rattle.store_policy.specs.Windows.{entries_between, window_checks}
+use Rattle.store_policy.specs.Checks.{entries_between, first_failure, window_checks}
 use Rattle.store_policy.specs.declared.refusal.Refusal.{Refusal}
 use Rattle.store_policy.specs.declared.refusal.Refusal.TheVariants.{Full, NotEmpty, Reversed, SameStore}
 use Rattle.store_policy.specs.declared.view.View.{View}

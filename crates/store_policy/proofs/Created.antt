@@ -10,7 +10,8 @@ use Rattle.pst_model.specs.Stores.{create, create_checks, exceeds, is_channel, i
 use Rattle.pst_model.specs.Table.{Store, Table, content_of}
 use Rattle.store_directory.specs.Directory.{place_of}
 use Rattle.store_directory.specs.declared.row.Row.{Row}
-use Rattle.store_policy.specs.Agreement.{Agrees, LacksBlocks, Tells, first_failure, reserved_as}
+use Rattle.store_policy.specs.Agreement.{Agrees, Tells, reserved_as}
+use Rattle.store_policy.specs.Checks.{first_failure}
 use Rattle.store_policy.specs.Codes.{code_of}
 use Rattle.store_policy.specs.Found.{IsUnknown}
 use Rattle.store_policy.specs.Shown.{IsTableShown}

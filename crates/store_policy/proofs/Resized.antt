@@ -10,7 +10,8 @@ use Rattle.pst_model.specs.Stores.{exceeds, is_size, reserved_by, resize, resize
 use Rattle.pst_model.specs.Table.{Store, Table, content_of}
 use Rattle.pst_model.proofs.Shapes.{found_passes}
 use Rattle.store_directory.specs.declared.row.Row.{Row}
-use Rattle.store_policy.specs.Agreement.{Agrees, Tells, first_failure, reserved_as}
+use Rattle.store_policy.specs.Agreement.{Agrees, Tells, reserved_as}
+use Rattle.store_policy.specs.Checks.{first_failure}
 use Rattle.store_policy.specs.Found.{IsPairOf}
 use Rattle.store_policy.specs.Shown.{IsShown, IsTableShown}
 use Rattle.store_policy.specs.declared.refusal.Refusal.{Refusal}

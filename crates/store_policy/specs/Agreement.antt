@@ -1,5 +1,5 @@
 -- When a check of an instruction agrees with what the instruction does, and what its refusals tell.
-use Rattle.std.specs.Prelude.{◌≡◌, ◌<◌, ◌-◌, ⊤, ℕ, Bool, IsSomeAnd, find, if◌then◌else◌, List, [], ◌∷◌, Option, Some, None, Result, Ok, Err}
+use Rattle.std.specs.Prelude.{◌≡◌, ◌<◌, ◌-◌, ⊤, ℕ, IsSomeAnd, find, List, Option, Some, None, Result, Ok, Err}
 use Rattle.block_pool.specs.Sizes.{blocks_for_size}
 use Rattle.control_defs.specs.declared.instructions.Instruction.{Instruction}
 use Rattle.control_defs.specs.declared.instructions.Instruction.TheVariants.{Copy, Create, Resize}
@@ -16,11 +16,6 @@ abbrev pub Agrees : {X : Type 0} → Result (Unit {0}) Refusal → Result X ℕ 
 Agrees (Ok _) (Ok _) = ⊤
 Agrees (Err refusal) (Err code) = code_of refusal ≡ code
 Agrees _ _ = ⊥
-
--- the first of these checks that fails, with its refusal
-abbrev pub first_failure : List (Bool × Refusal) → Result (Unit {0}) Refusal
-first_failure [] = Ok tt
-first_failure (check ∷ checks) = if check.0 then Err check.1 else first_failure checks
 
 -- the store that an instruction creates or gives a size, and that size in pages
 abbrev pub sized_by : Instruction → Option (ℕ × ℕ)
@@ -75,10 +70,3 @@ Tells blocks table item (NoBlocks need free) =
 Tells blocks table item (Full need free) = TellsPages table.stores need free item
 Tells blocks table item (TooSmall content) = TellsSize table.stores content (sized_by item)
 Tells _ _ _ _ = ⊤
-
--- a refusal without numbers
-abbrev pub IsPlain : Refusal → Type 0
-IsPlain (NoBlocks need free) = ⊥
-IsPlain (Full need free) = ⊥
-IsPlain (TooSmall content) = ⊥
-IsPlain _ = ⊤

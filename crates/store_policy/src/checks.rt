@@ -8,10 +8,10 @@ ghost use Rattle.store_policy.specs.Shown.{IsTableShown};
 
 use crate::copies::copy;
 use crate::flags::{ask, remove, set_channel, set_kind, set_open, set_storage};
+use crate::patterns::{add, add_type, delete, delete_type};
 use crate::refusal::Refusal;
 use crate::retrievals::{abort_range, delete_up_to, open_from, start_range};
 use crate::sizes::{create, resize};
-use crate::types::{add, add_type, delete, delete_type};
 use crate::view::View;
 use control_defs::{Instruction, StoreKind};
 

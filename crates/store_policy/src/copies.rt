@@ -3,8 +3,8 @@ ghost use Rattle.std.specs.Prelude.{◌≡◌, ◌-◌, ◌≤◌, IfErr, drop, 
 ghost use Rattle.control_defs.specs.declared.instructions.Instruction.TheVariants.{Copy};
 ghost use Rattle.pst_model.specs.Copies.{copy};
 ghost use Rattle.pst_model.specs.Table.{Table};
-ghost use Rattle.store_policy.specs.Agreement.{Agrees, Tells, first_failure};
-ghost use Rattle.store_policy.specs.Windows.{window_checks};
+ghost use Rattle.store_policy.specs.Agreement.{Agrees, Tells};
+ghost use Rattle.store_policy.specs.Checks.{first_failure, window_checks};
 ghost use Rattle.store_policy.specs.Shown.{IsTableShown};
 ghost use Rattle.time_index.specs.TimeIndex.{IsInOrder, pages_of};
 
@@ -45,13 +45,7 @@ fn take_window(index: &Index, t1: u64, t2: u64, size: u32) -> Result<(), Refusal
 }
 
 // Copies the packets of a window of one store into another one.
-pub(crate) fn copy(
-    view: &View<'_>,
-    from: u16,
-    to: u16,
-    t1: u64,
-    t2: u64,
-) -> Result<(), Refusal>
+pub(crate) fn copy(view: &View<'_>, from: u16, to: u16, t1: u64, t2: u64) -> Result<(), Refusal>
     requires { length view.now.indexes.now ≡ length view.now.directory.now.stores }
     ensures agrees { (table : Table) → IsTableShown table view.now
         → Agrees result (copy from to t1 t2 table) }

@@ -1,6 +1,6 @@
 // Checks in their order.
 ghost use Rattle.std.specs.Prelude.{◌≡◌};
-ghost use Rattle.store_policy.specs.Agreement.{first_failure};
+ghost use Rattle.store_policy.specs.Checks.{first_failure};
 
 use crate::refusal::Refusal;
 

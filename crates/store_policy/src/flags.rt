@@ -4,7 +4,8 @@ ghost use Rattle.pst_model.specs.Changes.{asked_about, change_store};
 ghost use Rattle.pst_model.specs.Instructions.{set_open, set_storage};
 ghost use Rattle.pst_model.specs.Stores.{remove, set_channel, set_kind};
 ghost use Rattle.pst_model.specs.Table.{Table};
-ghost use Rattle.store_policy.specs.Agreement.{Agrees, IsPlain};
+ghost use Rattle.store_policy.specs.Agreement.{Agrees};
+ghost use Rattle.store_policy.specs.Checks.{IsPlain};
 ghost use Rattle.store_policy.specs.Shown.{IsTableShown};
 
 use crate::failures::first_failure;

@@ -1,5 +1,5 @@
 //! What may be done with the packet stores (ECSS-E-ST-70-41C, 6.15): how many packets leave a store
-//! for a new one, by its row and its time index, and why an instruction is refused.
+//! for a new one, by its row and its time index, and which instructions are refused, and why.
 #![tactic(auto)]
 
 mod checks;
@@ -7,11 +7,11 @@ mod copies;
 mod failures;
 mod flags;
 mod limits;
+mod patterns;
 mod plans;
 mod refusal;
 mod retrievals;
 mod sizes;
-mod types;
 mod view;
 
 pub use checks::check;
@@ -20,4 +20,10 @@ pub use refusal::Refusal;
 pub use view::View;
 
 #[cfg(test)]
+mod check_tests;
+#[cfg(test)]
+mod limit_tests;
+#[cfg(test)]
 mod plan_tests;
+#[cfg(test)]
+mod stores_made;

@@ -3,7 +3,8 @@ ghost use Rattle.std.specs.Prelude.{◌≡◌, ℕ, IfErr};
 ghost use Rattle.pst_model.specs.Changes.{change_store};
 ghost use Rattle.pst_model.specs.Ranges.{abort_range, delete_up_to, open_from, start_range};
 ghost use Rattle.pst_model.specs.Table.{Table};
-ghost use Rattle.store_policy.specs.Agreement.{Agrees, IsPlain};
+ghost use Rattle.store_policy.specs.Agreement.{Agrees};
+ghost use Rattle.store_policy.specs.Checks.{IsPlain};
 ghost use Rattle.store_policy.specs.Shown.{IsTableShown};
 
 use crate::failures::first_failure;

@@ -38,12 +38,7 @@ fn lacks_blocks(view: &View<'_>, size: u32, old: u32) -> (bool, Refusal)
 }
 
 // Creates a store.
-pub(crate) fn create(
-    view: &View<'_>,
-    store: u16,
-    size: u32,
-    channel: u8,
-) -> Result<(), Refusal>
+pub(crate) fn create(view: &View<'_>, store: u16, size: u32, channel: u8) -> Result<(), Refusal>
     requires least { 16 ≤ view.now.blocks }
     requires most { view.now.blocks ≤ 512 }
     requires reserved { reserved_by view.now.directory.now.stores + 8 ≤ view.now.blocks }

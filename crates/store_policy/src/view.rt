@@ -10,6 +10,7 @@ use store_directory::{Directory, Row};
 use time_index::Index;
 
 /// The packet stores as they lie in memory.
+#[derive(Clone, Copy)]
 pub struct View<'a> {
     pub directory: &'a Directory,
     /// One for each store, in the same order. A store's row and its index have the same first number,
@@ -25,9 +26,7 @@ pub(crate) fn place_of(view: &View<'_>, identifier: u16) -> Result<u32, Refusal>
     ensures found { IfOk result (IsAt view.now identifier) }
     ensures unknown { IfErr result (IsUnknown view.now identifier) }
 {
-    view.directory
-        .find(identifier)
-        .ok_or(Refusal::UnknownStore)
+    view.directory.find(identifier).ok_or(Refusal::UnknownStore)
 }
 
 // The row of the store with this identifier.
@@ -40,10 +39,7 @@ pub(crate) fn row_of<'a>(view: &View<'a>, identifier: u16) -> Result<&'a Row, Re
 }
 
 // The patterns of what the store with this identifier takes.
-pub(crate) fn patterns_of<'a>(
-    view: &View<'a>,
-    identifier: u16,
-) -> Result<&'a Patterns, Refusal>
+pub(crate) fn patterns_of<'a>(view: &View<'a>, identifier: u16) -> Result<&'a Patterns, Refusal>
     ensures found { IfOk result (λ patterns. TakesPatterns view.now identifier patterns.now) }
     ensures unknown { IfErr result (IsUnknown view.now identifier) }
 {

@@ -1,5 +1,5 @@
 use Rattle.std.proofs.Common.{◌≡◌, Ok, Err, refl, rules, sym, ◌∙◌, ap, subst}
-use Rattle.store_policy.specs.Agreement.{Agrees, first_failure}
+use Rattle.store_policy.specs.Checks.{first_failure}
 use Rattle.store_policy.proofs.Agreements.{HavePassed, have-passed}
 use Rattle.store_policy.proofs.CopyChecks.{copy-agrees, copy-fails, copy-tells, copying}
 use Rattle.store_policy.proofs.copies.copy.Goals as goal

@@ -1,5 +1,5 @@
 use Rattle.std.proofs.Common.{◌≡◌, drop}
-use Rattle.store_policy.specs.Agreement.{first_failure}
+use Rattle.store_policy.specs.Checks.{first_failure}
 use Rattle.store_policy.proofs.failures.first_failure.Given as goal
 
 abbrev pub invariant-loop-fails : goal.invariant-loop-fails

@@ -1,6 +1,6 @@
 use Rattle.std.proofs.Common.{◌≡◌, refl, sym, ◌∙◌, ap, arith, length}
 use Rattle.std.specs.Prelude.{is_some, nat_le, not}
-use Rattle.store_policy.specs.Agreement.{first_failure}
+use Rattle.store_policy.specs.Checks.{first_failure}
 use Rattle.store_policy.proofs.Blocks.{IsLacking}
 use Rattle.store_policy.proofs.Created.{create-agrees, create-tells, creating}
 use Rattle.store_policy.proofs.sizes.create.Goals as goal

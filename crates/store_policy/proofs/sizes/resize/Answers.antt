@@ -1,6 +1,6 @@
 use Rattle.std.proofs.Common.{◌≡◌, refl, sym, ◌∙◌, ap}
 use Rattle.block_pool.specs.Sizes.{blocks_for_size}
-use Rattle.store_policy.specs.Agreement.{first_failure}
+use Rattle.store_policy.specs.Checks.{first_failure}
 use Rattle.store_policy.proofs.Blocks.{IsLacking}
 use Rattle.store_policy.proofs.Resized.{resize-agrees, resize-tells, resizing}
 use Rattle.store_policy.proofs.sizes.resize.Goals as goal

@@ -5,7 +5,8 @@ ghost use Rattle.control_defs.specs.Lists.{IsPatternList, is_covered, is_standin
 ghost use Rattle.pst_model.specs.Changes.{change_store};
 ghost use Rattle.pst_model.specs.Instructions.{add_pattern, delete_pattern, with_types};
 ghost use Rattle.pst_model.specs.Table.{Store, Table};
-ghost use Rattle.store_policy.specs.Agreement.{Agrees, IsPlain};
+ghost use Rattle.store_policy.specs.Agreement.{Agrees};
+ghost use Rattle.store_policy.specs.Checks.{IsPlain};
 ghost use Rattle.store_policy.specs.Shown.{IsTableShown};
 
 use crate::failures::first_failure;
