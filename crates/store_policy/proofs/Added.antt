@@ -1,6 +1,6 @@
 -- Whether a pattern more has a place in a list.
-use Rattle.std.proofs.Common.{◌≡◌, ◌≢◌, Bool, true, false, List, Ok, Err, length, ap, arith, refl}
-use Rattle.std.proofs.lemmas.Bool.{cond-false, cond-true, le-ltb, lt-ltb}
+use Rattle.std.proofs.Common.{◌≡◌, ◌≢◌, true, false, List, Ok, Err, length, ap, arith, refl}
+use Rattle.std.proofs.lemmas.Bool.{le-ltb, lt-ltb}
 use Rattle.control_defs.specs.Lists.{IsPatternList, is_covered, with_pattern, without_covered}
 use Rattle.control_defs.specs.declared.patterns.Pattern.{Pattern}
 use Rattle.control_defs.proofs.Kept.{beside_fits}

@@ -1,18 +1,14 @@
 -- Agreement of checks with the model, step by step.
 use Rattle.std.proofs.Common.{◌≡◌, ℕ, Bool, true, false, List, [], ◌∷◌, ◌++◌, Result, Ok, Err, refl, sym, ap, ◌∙◌, subst}
 use Rattle.std.proofs.lemmas.Bool.{cond-false, cond-true}
-use Rattle.std.specs.Prelude.{⊤, IfErr, IsSomeAnd, find, map, if◌then◌else◌, Option, Some, None}
-use Rattle.pst_model.specs.Changes.{change_store, is_named, of_store, where_found, with_changed}
+use Rattle.std.specs.Prelude.{⊤, IfErr, IsSomeAnd, find, map, Option, Some, None}
+use Rattle.pst_model.specs.Changes.{is_named, of_store, where_found, with_changed}
 use Rattle.pst_model.specs.Failures.{unless}
 use Rattle.pst_model.specs.Table.{Store, Table}
-use Rattle.store_directory.specs.declared.row.Row.{Row}
 use Rattle.store_policy.specs.Agreement.{Agrees}
 use Rattle.store_policy.specs.Checks.{first_failure}
 use Rattle.store_policy.specs.Codes.{code_of}
-use Rattle.store_policy.specs.Found.{IsRowOf, IsShownBy, IsUnknown}
-use Rattle.store_policy.specs.Shown.{IsTableShown}
 use Rattle.store_policy.specs.declared.refusal.Refusal.{Refusal}
-use Rattle.store_policy.specs.declared.view.View.{View}
 
 -- An instruction on a store that stands.
 pub found-agrees : (identifier : ℕ) (table : Table) (outcome : Store → Result Table ℕ) (result : Result (Unit {0}) Refusal) (P : Store → Type 0)

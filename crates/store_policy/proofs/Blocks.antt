@@ -1,11 +1,11 @@
 -- The blocks that stores reserve, in the model and in memory.
-use Rattle.std.proofs.Common.{◌≡◌, ◌≤◌, ℕ, ◌+◌, ◌-◌, Bool, true, false, List, [], ◌∷◌, ◌++◌, length, Option, Some, None, refl, sym, ◌∙◌, ap, arith}
+use Rattle.std.proofs.Common.{◌≡◌, ℕ, ◌+◌, ◌-◌, Bool, true, false, List, [], ◌∷◌, ◌++◌, length, Some, refl, sym, ◌∙◌, ap, arith}
 use Rattle.std.proofs.lemmas.Bool.{cond-false, cond-true}
 use Rattle.std.proofs.lemmas.List.Sums.{sum_by-append, sum_by-cons}
 use Rattle.std.specs.Prelude.{find, nat_lt}
 use Rattle.block_pool.specs.Sizes.{blocks_for_size}
 use Rattle.pst_model.specs.Changes.{is_named, with_store}
-use Rattle.pst_model.specs.Stores.{exceeds, reserved_by}
+use Rattle.pst_model.specs.Stores.{reserved_by}
 use Rattle.pst_model.specs.Table.{Store}
 use Rattle.store_directory.specs.Directory as memory
 use Rattle.store_directory.specs.Directory.{Listed}

@@ -1,9 +1,9 @@
 -- Windows of packets, as a time index shows them.
-use Rattle.std.proofs.Common.{◌≡◌, ◌≤◌, ◌<◌, ℕ, zero, suc, ◌+◌, ◌-◌, Bool, true, false, cond, List, [], ◌∷◌, length, drop, take, get_or, refl, sym, ◌∙◌, ap, subst, arith}
-use Rattle.std.proofs.lemmas.Bool.{le-leb, leb-false, leb-true, lt-leb}
-use Rattle.std.proofs.lemmas.List.{drop-map, get_or-map, length-drop, length-map, length-take, take-map}
+use Rattle.std.proofs.Common.{◌≡◌, ◌≤◌, ◌<◌, ℕ, ◌-◌, Bool, true, false, cond, List, [], ◌∷◌, length, drop, take, get_or, refl, sym, ◌∙◌, ap, arith}
+use Rattle.std.proofs.lemmas.Bool.{leb-false, leb-true}
+use Rattle.std.proofs.lemmas.List.{drop-map, get_or-map, length-drop, length-take, take-map}
 use Rattle.std.proofs.lemmas.List.Sums.{count_by-le-length, sum_by-cons}
-use Rattle.std.specs.Prelude.{count_by, map, min, nat_le, nat_lt, sum_by}
+use Rattle.std.specs.Prelude.{count_by, map, nat_le, nat_lt, sum_by}
 use Rattle.std.specs.List.Sorted.{IsNonDecreasingBy}
 use Rattle.space_packet.specs.Charge.{charge_of}
 use Rattle.pst_model.specs.Copies.{is_empty}

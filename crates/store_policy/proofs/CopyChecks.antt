@@ -1,9 +1,9 @@
 -- Checks of a copy.
-use Rattle.std.proofs.Common.{◌≡◌, ◌≤◌, ◌<◌, ℕ, Bool, true, false, List, [], ◌∷◌, ◌++◌, length, Option, Some, None, Result, Ok, Err, refl, sym, ◌∙◌, ap, subst, arith}
-use Rattle.std.proofs.lemmas.Bool.{eqb-true, le-ltb, lt-ltb, ltb-false, ltb-true, not_from_false, not_from_true}
-use Rattle.std.specs.Prelude.{◌==◌, IfErr, IsSomeAnd, find, map, nat_lt, not}
+use Rattle.std.proofs.Common.{◌≡◌, ◌≤◌, ℕ, Bool, true, false, List, [], ◌∷◌, ◌++◌, length, Some, Result, Err, refl, sym, ◌∙◌, ap, subst, arith}
+use Rattle.std.proofs.lemmas.Bool.{eqb-true, ltb-false, ltb-true, not_from_false, not_from_true}
+use Rattle.std.specs.Prelude.{◌==◌, IfErr, find, map, nat_lt, not}
 use Rattle.control_defs.specs.declared.instructions.Instruction.TheVariants.{Copy}
-use Rattle.pst_model.specs.Changes.{change_store, is_named, of_store, with_changed}
+use Rattle.pst_model.specs.Changes.{change_store, is_named, with_changed}
 use Rattle.pst_model.specs.Copies.{copy, copy_checks, is_empty, take_window}
 use Rattle.pst_model.specs.Failures.{empty_window, unless, window_too_large}
 use Rattle.pst_model.specs.Ranges.{window_of}
@@ -17,12 +17,11 @@ use Rattle.store_policy.specs.Checks.{entries_between, first_failure, window_che
 use Rattle.store_policy.specs.declared.refusal.Refusal.{Refusal}
 use Rattle.store_policy.specs.declared.refusal.Refusal.TheVariants.{Full, NotEmpty, Reversed, SameStore}
 use Rattle.store_policy.specs.declared.view.View.{View}
-use Rattle.store_policy.proofs.Agreements.{HavePassed, changed-agrees, checks-agree, checks-told, coded, found-agrees, front-fails, front-passes, have-passed}
+use Rattle.store_policy.proofs.Agreements.{HavePassed, changed-agrees, checks-agree, checks-told, coded, found-agrees, front-fails, front-passes}
 use Rattle.store_policy.proofs.Copied.{filled-is, empty-is, window-content, window-empty}
 use Rattle.store_policy.proofs.Lookups.{some-weaker}
 use Rattle.store_policy.proofs.Stored.{packets-counted}
 use Rattle.time_index.specs.TimeIndex.{IsInOrder, TimeIndex, pages_of}
-use Rattle.time_index.specs.declared.entry.Entry.{Entry}
 
 -- the checks before those of the window
 abbrev pub copying : (from to t1 t2 : ℕ) → TimeIndex → List (Bool × Refusal)

@@ -1,25 +1,22 @@
 -- Checks of a store that is created.
-use Rattle.std.proofs.Common.{◌≡◌, ◌≤◌, ◌<◌, ℕ, ◌+◌, ◌-◌, Bool, true, false, List, [], ◌∷◌, ◌++◌, length, Option, Some, None, Result, Ok, Err, refl, sym, ◌∙◌, ap, subst, arith}
-use Rattle.std.proofs.lemmas.Bool.{eqb-true, ltb-true}
+use Rattle.std.proofs.Common.{◌≡◌, ℕ, ◌+◌, ◌-◌, Bool, true, false, List, [], ◌∷◌, ◌++◌, length, Option, Some, None, refl, sym, ◌∙◌, ap, subst, arith}
+use Rattle.std.proofs.lemmas.Bool.{ltb-true}
 use Rattle.std.specs.Prelude.{IfErr, find, is_some, map, nat_le, nat_lt, not}
 use Rattle.block_pool.specs.Sizes.{blocks_for_size}
-use Rattle.control_defs.specs.declared.instructions.Instruction.TheVariants.{Create, Resize}
+use Rattle.control_defs.specs.declared.instructions.Instruction.TheVariants.{Create}
 use Rattle.control_defs.specs.declared.instructions.StoreKind.{StoreKind}
-use Rattle.pst_model.specs.Changes.{change_store, is_named, with_store}
-use Rattle.pst_model.specs.Stores.{create, create_checks, exceeds, is_channel, is_size, new_store, reserved_by, resize, resize_checks, with_size}
-use Rattle.pst_model.specs.Table.{Store, Table, content_of}
+use Rattle.pst_model.specs.Changes.{is_named}
+use Rattle.pst_model.specs.Stores.{create, create_checks, exceeds, is_channel, is_size, new_store, reserved_by}
+use Rattle.pst_model.specs.Table.{Store, Table}
 use Rattle.store_directory.specs.Directory.{place_of}
-use Rattle.store_directory.specs.declared.row.Row.{Row}
 use Rattle.store_policy.specs.Agreement.{Agrees, Tells, reserved_as}
 use Rattle.store_policy.specs.Checks.{first_failure}
-use Rattle.store_policy.specs.Codes.{code_of}
-use Rattle.store_policy.specs.Found.{IsUnknown}
 use Rattle.store_policy.specs.Shown.{IsTableShown}
 use Rattle.store_policy.specs.declared.refusal.Refusal.{Refusal}
-use Rattle.store_policy.specs.declared.refusal.Refusal.TheVariants.{BadChannel, NoBlocks, OpenOn, RangeOn, SizeRange, StorageOn, StoreExists, StoreLimit, TooSmall}
+use Rattle.store_policy.specs.declared.refusal.Refusal.TheVariants.{BadChannel, NoBlocks, SizeRange, StoreExists, StoreLimit}
 use Rattle.store_policy.specs.declared.view.View.{View}
 use Rattle.store_policy.proofs.Agreements.{checks-agree, checks-told, coded}
-use Rattle.store_policy.proofs.Blocks.{IsLacking, length-shown, reserved_in, reserved-more, reserved-shown, reserved-with}
+use Rattle.store_policy.proofs.Blocks.{IsLacking, length-shown, reserved_in, reserved-more, reserved-shown}
 use Rattle.store_policy.proofs.Lookups.{stands-shown, unknown-in}
 
 -- the checks of a store that is created

@@ -1,5 +1,5 @@
 -- Stores of a table by the places of those that show them.
-use Rattle.std.proofs.Common.{◌≡◌, ◌≢◌, ℕ, zero, suc, Bool, true, false, List, [], ◌∷◌, nat_eq, ap, refl, sym, subst, ◌∙◌}
+use Rattle.std.proofs.Common.{◌≡◌, ℕ, zero, suc, true, false, List, [], ◌∷◌, nat_eq, ap, refl, sym, subst, ◌∙◌}
 use Rattle.std.proofs.lemmas.Bool.{cond-false, cond-true, eq-eqb, eqb-false, eqb-true, ne_eqb}
 use Rattle.std.specs.Prelude.{IfErr, IfOk, IfSome, IsSomeAnd, find, is_some, Option, Some, None, slice_get}
 use Rattle.std.specs.Option.{ok_or}
@@ -11,7 +11,6 @@ use Rattle.store_directory.proofs.Places.{IsAbsent, IsFirst, absent-position, fi
 use Rattle.store_policy.specs.Found.{IsAt, IsPairOf, IsRowOf, IsShownAt, IsShownBy, IsUnknown, TakesPatterns}
 use Rattle.store_policy.specs.Shown.{AreShown, IsShown, IsStoreShown, IsTableShown}
 use Rattle.store_directory.specs.declared.row.Row.{Row}
-use Rattle.store_policy.specs.declared.refusal.Refusal.{Refusal}
 use Rattle.store_policy.specs.declared.refusal.Refusal.TheVariants.{UnknownStore}
 use Rattle.store_policy.specs.declared.view.View.{View}
 use Rattle.time_index.specs.TimeIndex.{TimeIndex}

@@ -1,11 +1,10 @@
 -- Checks of a store that gets another size.
-use Rattle.std.proofs.Common.{◌≡◌, ◌≤◌, ◌<◌, ℕ, ◌+◌, ◌-◌, Bool, true, false, List, [], ◌∷◌, Option, Some, None, refl, sym, ◌∙◌, ap, subst, arith}
+use Rattle.std.proofs.Common.{◌≡◌, ◌≤◌, ℕ, ◌+◌, ◌-◌, Bool, true, List, [], ◌∷◌, Option, Some, None, refl, sym, ◌∙◌, ap, subst, arith}
 use Rattle.std.proofs.lemmas.Bool.{eqb-true, ltb-true}
 use Rattle.std.specs.Prelude.{IfErr, IsSomeAnd, find, is_some, map, nat_lt, not}
 use Rattle.block_pool.specs.Sizes.{blocks_for_size}
 use Rattle.control_defs.specs.declared.instructions.Instruction.TheVariants.{Resize}
 use Rattle.pst_model.specs.Changes.{change_store, is_named, with_changed, with_store}
-use Rattle.pst_model.specs.Rules.{has_range}
 use Rattle.pst_model.specs.Stores.{exceeds, is_size, reserved_by, resize, resize_checks, with_size}
 use Rattle.pst_model.specs.Table.{Store, Table, content_of}
 use Rattle.pst_model.proofs.Shapes.{found_passes}

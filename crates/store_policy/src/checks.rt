@@ -6,12 +6,14 @@ ghost use Rattle.store_directory.specs.Directory.{reserved_by};
 ghost use Rattle.store_policy.specs.Agreement.{Agrees, Tells};
 ghost use Rattle.store_policy.specs.Shown.{IsTableShown};
 
-use crate::copies::copy;
-use crate::flags::{ask, remove, set_channel, set_kind, set_open, set_storage};
-use crate::patterns::{add, add_type, delete, delete_type};
+use crate::copies::may_copy;
+use crate::flags::{
+    may_ask, may_remove, may_set_channel, may_set_kind, may_set_open, may_set_storage,
+};
+use crate::patterns::{may_add, may_add_type, may_delete, may_delete_type};
 use crate::refusal::Refusal;
-use crate::retrievals::{abort_range, delete_up_to, open_from, start_range};
-use crate::sizes::{create, resize};
+use crate::retrievals::{may_abort_range, may_delete_up_to, may_open_from, may_start_range};
+use crate::sizes::{may_create, may_resize};
 use crate::view::View;
 use control_defs::{Instruction, StoreKind};
 
@@ -30,34 +32,34 @@ pub fn check(view: &View<'_>, instruction: &Instruction) -> Result<(), Refusal>
         → Tells view.now.blocks table instruction.now refusal) }
 {
     match *instruction {
-        Instruction::ForwardAdd(pattern) => add(view.directory.forward(), &pattern),
-        Instruction::ForwardDelete(pattern) => delete(view.directory.forward(), &pattern),
+        Instruction::ForwardAdd(pattern) => may_add(view.directory.forward(), &pattern),
+        Instruction::ForwardDelete(pattern) => may_delete(view.directory.forward(), &pattern),
         Instruction::ForwardReport => Ok(()),
-        Instruction::Enable(store) => set_storage(view, store, true),
-        Instruction::Disable(store) => set_storage(view, store, false),
-        Instruction::AddTypes { store, pattern } => add_type(view, store, &pattern),
-        Instruction::DeleteTypes { store, pattern } => delete_type(view, store, &pattern),
-        Instruction::ReportTypes(store) => ask(view, store),
-        Instruction::StartRange { store, t1, t2 } => start_range(view, store, t1, t2),
-        Instruction::DeleteUpTo { store, t: _ } => delete_up_to(view, store),
-        Instruction::Summary(store) => ask(view, store),
-        Instruction::OpenFrom { store, t: _ } => open_from(view, store),
-        Instruction::Resume(store) => set_open(view, store, true),
-        Instruction::Suspend(store) => set_open(view, store, false),
-        Instruction::Abort(store) => abort_range(view, store),
+        Instruction::Enable(store) => may_set_storage(view, store, true),
+        Instruction::Disable(store) => may_set_storage(view, store, false),
+        Instruction::AddTypes { store, pattern } => may_add_type(view, store, &pattern),
+        Instruction::DeleteTypes { store, pattern } => may_delete_type(view, store, &pattern),
+        Instruction::ReportTypes(store) => may_ask(view, store),
+        Instruction::StartRange { store, t1, t2 } => may_start_range(view, store, t1, t2),
+        Instruction::DeleteUpTo { store, t: _ } => may_delete_up_to(view, store),
+        Instruction::Summary(store) => may_ask(view, store),
+        Instruction::OpenFrom { store, t: _ } => may_open_from(view, store),
+        Instruction::Resume(store) => may_set_open(view, store, true),
+        Instruction::Suspend(store) => may_set_open(view, store, false),
+        Instruction::Abort(store) => may_abort_range(view, store),
         Instruction::Status => Ok(()),
         Instruction::Create {
             store,
             kind: _,
             size,
             channel,
-        } => create(view, store, size, channel),
-        Instruction::Remove(store) => remove(view, store),
+        } => may_create(view, store, size, channel),
+        Instruction::Remove(store) => may_remove(view, store),
         Instruction::Configuration => Ok(()),
-        Instruction::Copy { from, to, t1, t2 } => copy(view, from, to, t1, t2),
-        Instruction::Resize { store, size } => resize(view, store, size),
-        Instruction::ToCircular(store) => set_kind(view, store, StoreKind::Circular),
-        Instruction::ToBounded(store) => set_kind(view, store, StoreKind::Bounded),
-        Instruction::Channel { store, channel } => set_channel(view, store, channel),
+        Instruction::Copy { from, to, t1, t2 } => may_copy(view, from, to, t1, t2),
+        Instruction::Resize { store, size } => may_resize(view, store, size),
+        Instruction::ToCircular(store) => may_set_kind(view, store, StoreKind::Circular),
+        Instruction::ToBounded(store) => may_set_kind(view, store, StoreKind::Bounded),
+        Instruction::Channel { store, channel } => may_set_channel(view, store, channel),
     }
 }

@@ -28,9 +28,9 @@ fn pages_between(index: &Index, first: u32, end: u32) -> u32
     pages
 }
 
-// Takes a window of packets over into an empty store of this size. Times never fall, so the packets
-// of the window lie behind one another.
-fn take_window(index: &Index, t1: u64, t2: u64, size: u32) -> Result<(), Refusal>
+// Whether an empty store of this size may take over a window of packets. Times never fall, so the
+// packets of the window lie behind one another.
+fn may_take_window(index: &Index, t1: u64, t2: u64, size: u32) -> Result<(), Refusal>
     ensures first { result ≡ first_failure (window_checks t1 t2 index.now.entries size) }
     ensures order { IsInOrder index.now.entries }
 {
@@ -44,8 +44,8 @@ fn take_window(index: &Index, t1: u64, t2: u64, size: u32) -> Result<(), Refusal
     ])
 }
 
-// Copies the packets of a window of one store into another one.
-pub(crate) fn copy(view: &View<'_>, from: u16, to: u16, t1: u64, t2: u64) -> Result<(), Refusal>
+// Whether the packets of a window of one store may be copied into another one.
+pub(crate) fn may_copy(view: &View<'_>, from: u16, to: u16, t1: u64, t2: u64) -> Result<(), Refusal>
     requires { length view.now.indexes.now ≡ length view.now.directory.now.stores }
     ensures agrees { (table : Table) → IsTableShown table view.now
         → Agrees result (copy from to t1 t2 table) }
@@ -59,5 +59,5 @@ pub(crate) fn copy(view: &View<'_>, from: u16, to: u16, t1: u64, t2: u64) -> Res
         (t2 < t1, Refusal::Reversed),
         (destination.len() > 0, Refusal::NotEmpty),
     ])?;
-    take_window(source, t1, t2, row.size)
+    may_take_window(source, t1, t2, row.size)
 }

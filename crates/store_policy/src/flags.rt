@@ -14,8 +14,8 @@ use crate::refusal::Refusal;
 use crate::view::{View, row_of};
 use control_defs::StoreKind;
 
-// Asks about a store.
-pub(crate) fn ask(view: &View<'_>, store: u16) -> Result<(), Refusal>
+// Whether a store may be asked about.
+pub(crate) fn may_ask(view: &View<'_>, store: u16) -> Result<(), Refusal>
     ensures agrees { (table : Table) → IsTableShown table view.now
         → Agrees result (asked_about store table) }
     ensures plain { IfErr result IsPlain }
@@ -24,8 +24,8 @@ pub(crate) fn ask(view: &View<'_>, store: u16) -> Result<(), Refusal>
     Ok(())
 }
 
-// Sets whether packets are stored.
-pub(crate) fn set_storage(view: &View<'_>, store: u16, on: bool) -> Result<(), Refusal>
+// Whether the storage of a store may be set on or off.
+pub(crate) fn may_set_storage(view: &View<'_>, store: u16, on: bool) -> Result<(), Refusal>
     ensures agrees { (table : Table) → IsTableShown table view.now
         → Agrees result (change_store store table (set_storage on)) }
     ensures plain { IfErr result IsPlain }
@@ -34,8 +34,8 @@ pub(crate) fn set_storage(view: &View<'_>, store: u16, on: bool) -> Result<(), R
     first_failure(&[(row.storage == on, Refusal::AlreadySo)])
 }
 
-// Sets whether open retrieval is on.
-pub(crate) fn set_open(view: &View<'_>, store: u16, on: bool) -> Result<(), Refusal>
+// Whether the open retrieval of a store may be set on or off.
+pub(crate) fn may_set_open(view: &View<'_>, store: u16, on: bool) -> Result<(), Refusal>
     ensures agrees { (table : Table) → IsTableShown table view.now
         → Agrees result (change_store store table (set_open on)) }
     ensures plain { IfErr result IsPlain }
@@ -44,8 +44,8 @@ pub(crate) fn set_open(view: &View<'_>, store: u16, on: bool) -> Result<(), Refu
     first_failure(&[(row.open_on == on, Refusal::AlreadySo)])
 }
 
-// Deletes a store.
-pub(crate) fn remove(view: &View<'_>, store: u16) -> Result<(), Refusal>
+// Whether a store may be deleted.
+pub(crate) fn may_remove(view: &View<'_>, store: u16) -> Result<(), Refusal>
     ensures agrees { (table : Table) → IsTableShown table view.now
         → Agrees result (remove store table) }
     ensures plain { IfErr result IsPlain }
@@ -58,8 +58,8 @@ pub(crate) fn remove(view: &View<'_>, store: u16) -> Result<(), Refusal>
     ])
 }
 
-// Makes a store circular or bounded.
-pub(crate) fn set_kind(view: &View<'_>, store: u16, kind: StoreKind) -> Result<(), Refusal>
+// Whether a store may become circular or bounded.
+pub(crate) fn may_set_kind(view: &View<'_>, store: u16, kind: StoreKind) -> Result<(), Refusal>
     ensures agrees { (table : Table) → IsTableShown table view.now
         → Agrees result (change_store store table (set_kind kind)) }
     ensures plain { IfErr result IsPlain }
@@ -73,8 +73,8 @@ pub(crate) fn set_kind(view: &View<'_>, store: u16, kind: StoreKind) -> Result<(
     ])
 }
 
-// Sets the channel of a store.
-pub(crate) fn set_channel(view: &View<'_>, store: u16, channel: u8) -> Result<(), Refusal>
+// Whether a store may have this channel.
+pub(crate) fn may_set_channel(view: &View<'_>, store: u16, channel: u8) -> Result<(), Refusal>
     ensures agrees { (table : Table) → IsTableShown table view.now
         → Agrees result (change_store store table (set_channel channel)) }
     ensures plain { IfErr result IsPlain }

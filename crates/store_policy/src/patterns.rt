@@ -50,9 +50,9 @@ fn is_standing(patterns: &Patterns, pattern: &Pattern) -> bool
     list.iter().any(|other| is_same(pattern, other))
 }
 
-// Adds a pattern to a list: one that is covered leaves the list as it is, and any other one takes the
-// place of those that it covers.
-pub(crate) fn add(patterns: &Patterns, pattern: &Pattern) -> Result<(), Refusal>
+// Whether a pattern may be added to a list. One that is covered leaves the list as it is, and any
+// other one takes the place of those that it covers.
+pub(crate) fn may_add(patterns: &Patterns, pattern: &Pattern) -> Result<(), Refusal>
     ensures agrees { Agrees result (add_pattern pattern.now patterns.now) }
     ensures plain { IfErr result IsPlain }
 {
@@ -65,32 +65,32 @@ pub(crate) fn add(patterns: &Patterns, pattern: &Pattern) -> Result<(), Refusal>
     Ok(())
 }
 
-// Deletes a pattern of a list.
-pub(crate) fn delete(patterns: &Patterns, pattern: &Pattern) -> Result<(), Refusal>
+// Whether a pattern may be deleted from a list.
+pub(crate) fn may_delete(patterns: &Patterns, pattern: &Pattern) -> Result<(), Refusal>
     ensures agrees { Agrees result (delete_pattern pattern.now patterns.now) }
     ensures plain { IfErr result IsPlain }
 {
     first_failure(&[(!is_standing(patterns, pattern), Refusal::PatternAbsent)])
 }
 
-// Adds a pattern to those of a store.
-pub(crate) fn add_type(view: &View<'_>, store: u16, pattern: &Pattern) -> Result<(), Refusal>
+// Whether a pattern may be added to those of a store.
+pub(crate) fn may_add_type(view: &View<'_>, store: u16, pattern: &Pattern) -> Result<(), Refusal>
     ensures agrees { (table : Table) → IsTableShown table view.now
         → Agrees result (change_store store table
         (λ (s : Store). with_types s (add_pattern pattern.now s.patterns))) }
     ensures plain { IfErr result IsPlain }
 {
     let patterns = patterns_of(view, store)?;
-    add(patterns, pattern)
+    may_add(patterns, pattern)
 }
 
-// Deletes a pattern of those of a store.
-pub(crate) fn delete_type(view: &View<'_>, store: u16, pattern: &Pattern) -> Result<(), Refusal>
+// Whether a pattern may be deleted from those of a store.
+pub(crate) fn may_delete_type(view: &View<'_>, store: u16, pattern: &Pattern) -> Result<(), Refusal>
     ensures agrees { (table : Table) → IsTableShown table view.now
         → Agrees result (change_store store table
         (λ (s : Store). with_types s (delete_pattern pattern.now s.patterns))) }
     ensures plain { IfErr result IsPlain }
 {
     let patterns = patterns_of(view, store)?;
-    delete(patterns, pattern)
+    may_delete(patterns, pattern)
 }

@@ -11,8 +11,8 @@ use crate::failures::first_failure;
 use crate::refusal::Refusal;
 use crate::view::{View, row_of};
 
-// Starts a range retrieval from one time to another.
-pub(crate) fn start_range(view: &View<'_>, store: u16, t1: u64, t2: u64) -> Result<(), Refusal>
+// Whether a range retrieval from one time to another may start.
+pub(crate) fn may_start_range(view: &View<'_>, store: u16, t1: u64, t2: u64) -> Result<(), Refusal>
     ensures agrees { (table : Table) → IsTableShown table view.now
         → Agrees result (change_store store table (start_range t1 t2)) }
     ensures plain { IfErr result IsPlain }
@@ -24,8 +24,8 @@ pub(crate) fn start_range(view: &View<'_>, store: u16, t1: u64, t2: u64) -> Resu
     ])
 }
 
-// Ends a range retrieval.
-pub(crate) fn abort_range(view: &View<'_>, store: u16) -> Result<(), Refusal>
+// Whether a range retrieval may be aborted.
+pub(crate) fn may_abort_range(view: &View<'_>, store: u16) -> Result<(), Refusal>
     ensures agrees { (table : Table) → IsTableShown table view.now
         → Agrees result (change_store store table abort_range) }
     ensures plain { IfErr result IsPlain }
@@ -34,8 +34,8 @@ pub(crate) fn abort_range(view: &View<'_>, store: u16) -> Result<(), Refusal>
     first_failure(&[(row.range.is_none(), Refusal::AlreadySo)])
 }
 
-// Deletes packets up to some time.
-pub(crate) fn delete_up_to(view: &View<'_>, store: u16) -> Result<(), Refusal>
+// Whether packets up to some time may be deleted.
+pub(crate) fn may_delete_up_to(view: &View<'_>, store: u16) -> Result<(), Refusal>
     ensures agrees { (t : ℕ) (table : Table) → IsTableShown table view.now
         → Agrees result (change_store store table (delete_up_to t)) }
     ensures plain { IfErr result IsPlain }
@@ -47,8 +47,8 @@ pub(crate) fn delete_up_to(view: &View<'_>, store: u16) -> Result<(), Refusal>
     ])
 }
 
-// Moves the start of open retrieval to some time.
-pub(crate) fn open_from(view: &View<'_>, store: u16) -> Result<(), Refusal>
+// Whether the start of open retrieval may move to some time.
+pub(crate) fn may_open_from(view: &View<'_>, store: u16) -> Result<(), Refusal>
     ensures agrees { (t : ℕ) (table : Table) → IsTableShown table view.now
         → Agrees result (change_store store table (open_from t)) }
     ensures plain { IfErr result IsPlain }

@@ -37,8 +37,8 @@ fn lacks_blocks(view: &View<'_>, size: u32, old: u32) -> (bool, Refusal)
     )
 }
 
-// Creates a store.
-pub(crate) fn create(view: &View<'_>, store: u16, size: u32, channel: u8) -> Result<(), Refusal>
+// Whether a store may be created.
+pub(crate) fn may_create(view: &View<'_>, store: u16, size: u32, channel: u8) -> Result<(), Refusal>
     requires least { 16 ≤ view.now.blocks }
     requires most { view.now.blocks ≤ 512 }
     requires reserved { reserved_by view.now.directory.now.stores + 8 ≤ view.now.blocks }
@@ -57,8 +57,8 @@ pub(crate) fn create(view: &View<'_>, store: u16, size: u32, channel: u8) -> Res
     ])
 }
 
-// Gives a store another size.
-pub(crate) fn resize(view: &View<'_>, store: u16, size: u32) -> Result<(), Refusal>
+// Whether a store may have another size.
+pub(crate) fn may_resize(view: &View<'_>, store: u16, size: u32) -> Result<(), Refusal>
     requires indexes { length view.now.indexes.now ≡ length view.now.directory.now.stores }
     requires least { 16 ≤ view.now.blocks }
     requires most { view.now.blocks ≤ 512 }

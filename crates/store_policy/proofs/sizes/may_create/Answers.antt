@@ -1,9 +1,8 @@
-use Rattle.std.proofs.Common.{◌≡◌, refl, sym, ◌∙◌, ap, arith, length}
-use Rattle.std.specs.Prelude.{is_some, nat_le, not}
+use Rattle.std.proofs.Common.{◌≡◌, refl, ◌∙◌}
 use Rattle.store_policy.specs.Checks.{first_failure}
 use Rattle.store_policy.proofs.Blocks.{IsLacking}
 use Rattle.store_policy.proofs.Created.{create-agrees, create-tells, creating}
-use Rattle.store_policy.proofs.sizes.create.Goals as goal
+use Rattle.store_policy.proofs.sizes.may_create.Goals as goal
 
 lacking : (c : goal.After-first_failure) → IsLacking c.args.view.now c.args.size 0 c.lacks_blocks.result
 lacking c = record { lacks = c.lacks_blocks.ensures.lacks; refusal = c.lacks_blocks.ensures.refusal }

@@ -1,9 +1,9 @@
-use Rattle.std.proofs.Common.{◌≡◌, refl, sym, ◌∙◌, ap}
+use Rattle.std.proofs.Common.{◌≡◌, refl, ◌∙◌}
 use Rattle.block_pool.specs.Sizes.{blocks_for_size}
 use Rattle.store_policy.specs.Checks.{first_failure}
 use Rattle.store_policy.proofs.Blocks.{IsLacking}
 use Rattle.store_policy.proofs.Resized.{resize-agrees, resize-tells, resizing}
-use Rattle.store_policy.proofs.sizes.resize.Goals as goal
+use Rattle.store_policy.proofs.sizes.may_resize.Goals as goal
 
 lacking : (c : goal.After-first_failure) → IsLacking c.args.view.now c.args.size (blocks_for_size c.in_ok-row.row.now.size) c.lacks_blocks.result
 lacking c = rw (← c.blocks_for.ensures) (record { lacks = c.lacks_blocks.ensures.lacks; refusal = c.lacks_blocks.ensures.refusal })

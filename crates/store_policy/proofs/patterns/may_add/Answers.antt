@@ -1,6 +1,6 @@
 use Rattle.std.proofs.Common.{sym, ◌∙◌, arith}
 use Rattle.store_policy.proofs.Added.{covered-agrees, full-agrees, room-agrees}
-use Rattle.store_policy.proofs.patterns.add.Goals as goal
+use Rattle.store_policy.proofs.patterns.may_add.Goals as goal
 
 pub returns-then-is_covered-clause-agrees : goal.returns-then-is_covered-clause-agrees
 returns-then-is_covered-clause-agrees c =
