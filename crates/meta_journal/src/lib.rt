@@ -11,6 +11,7 @@ mod reading;
 mod switching;
 
 pub use formatting::format;
+pub use half::half_of;
 pub use journal::Journal;
 pub use laws::{
     advancing_keeps_the_directory, journals_hold_their_directory, other_blocks_may_change,
