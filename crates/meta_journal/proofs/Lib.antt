@@ -11,3 +11,4 @@ pub mod Written
 pub mod Switched
 pub mod Staying
 pub mod Standing
+pub mod Folds
