@@ -8,3 +8,8 @@ mod stop;
 
 pub use opening::{Opened, read_journal};
 pub use stop::ReadStop;
+
+#[cfg(test)]
+mod script;
+#[cfg(test)]
+mod stop_tests;
