@@ -1,5 +1,5 @@
 // The handler of commands.
-ghost use Rattle.std.specs.Prelude.{◌≡◌, ◌<◌, ◌^◌, ℕ, Err, true, false, is_ok, IsOk, IsTrue, IfOk, OnOk, OnErr};
+ghost use Rattle.std.specs.Prelude.{◌≡◌, ◌<◌, ◌^◌, ℕ, [], Err, true, false, is_ok, IsOk, IsTrue, IfOk, OnOk, OnErr};
 ghost use Rattle.space_packet.specs.View.{octets_of};
 ghost use Rattle.pst_model.specs.Rules.{grant};
 ghost use Rattle.handler.specs.Counting.{IsCountOf};
@@ -184,6 +184,19 @@ impl Handler {
             Ok(sent) => Ok(sent),
             Err(_) => Err(self.close()),
         }
+    }
+
+    /// Passes an idle time at a moment below 2^48. Nothing changes, and nothing is sent.
+    pub fn idle<B: Board>(&mut self, board: &mut B, moment: u64) -> Result<Sent, HandlerFault>
+        requires open { IsTrue (is_open self.old) }
+        requires moment { moment < 2 ^ 48 }
+        ensures done { IfOk result (CarriesOut B.means board.old board.new
+            (λ number. record { table = table_in self.old; outputs = [] }) (table_in self.new)) }
+        ensures fine { IsOk result }
+        ensures board { board.new ≡ board.old }
+        ensures open { is_open self.new ≡ true }
+    {
+        Ok(Sent::default())
     }
 
     /// Ends a session: what has to be kept is kept. In memory there is nothing to do.

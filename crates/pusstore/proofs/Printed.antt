@@ -15,7 +15,7 @@ use Rattle.pst_model.specs.Text.{commands_of}
 use Rattle.station.specs.declared.ending.Ending.{Ending}
 use Rattle.station.specs.declared.ending.Ending.TheVariants.{Done, BadWords, BadLine, FlashFault, LinkFault, SourceFault, NoMemory}
 use Rattle.station.specs.Promises.{LinkBreaks, LinkSends}
-use Rattle.station.specs.Session.{EndsReading, EndsSending, MayBeSent, lines_for, outputs_for, read_of, taken_of, text_limit}
+use Rattle.station.specs.Session.{EndsReading, EndsSending, MayBeSent, lines_for, outputs_for, read_of, taken_of, text_limit, whole_read}
 use Rattle.pusstore.specs.Printing.{EndsFormat, EndsPrinting, IsOfDevice}
 
 -- a writer that gained nothing
@@ -83,7 +83,7 @@ module _ (text left : List ℕ) (before after : Option (List ℕ)) (blocks : ℕ
     left = left;
     taken = taken;
     none_bad = reading;
-    printed = sent_for (read_of text left) sending printed;
+    printed = sent_for (whole_read text left) sending printed;
   }
   prints_as FlashFault taken reading sending moments unchanged printed =
       subst (λ (octets : List ℕ). Appends before after octets) (sent_lines _ sending) printed

@@ -5,7 +5,7 @@ use Rattle.board.specs.Moments.{IsPrefixOf}
 use Rattle.pst_model.specs.Text.{bad_read, commands_of, first_bad}
 use Rattle.station.specs.declared.ending.Ending.{Ending}
 use Rattle.station.specs.declared.ending.Ending.TheVariants.{Done, BadWords, BadLine, FlashFault, LinkFault, SourceFault, NoMemory}
-use Rattle.station.specs.Session.{EndsReading, lines_for, read_of, taken_of, text_limit}
+use Rattle.station.specs.Session.{EndsReading, lines_for, read_of, taken_of, text_limit, whole_read}
 
 -- The writer gained a front of the lines for the commands read, where these octets of the text are left.
 pub record PrintsFront (blocks : ℕ) (text : List ℕ) (before after : Option (List ℕ)) : Type 0 where
@@ -15,12 +15,12 @@ pub record PrintsFront (blocks : ℕ) (text : List ℕ) (before after : Option (
   pub prefix : IsPrefixOf front (lines_for blocks (read_of text left))
   pub printed : Appends before after front
 
--- The source failed, and the writer gained all lines for the commands read.
+-- The source failed, and the writer gained all lines for the commands of the whole lines that were taken.
 pub record PrintsRead (blocks : ℕ) (text : List ℕ) (before after : Option (List ℕ)) : Type 0 where
   pub left : List ℕ
   pub taken : text ≡ taken_of text left ++ left
   pub none_bad : bad_read text_limit (taken_of text left) ≡ None
-  pub printed : Appends before after (lines_for blocks (read_of text left))
+  pub printed : Appends before after (lines_for blocks (whole_read text left))
 
 -- What the ending of a program says of its text, and of what its writer gained: all lines for the text, those for the
 -- commands before its first bad line, or those for the commands read; a front of these for want of memory; and nothing

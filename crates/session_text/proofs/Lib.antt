@@ -1,5 +1,9 @@
 pub mod Advances
 pub mod Buffers
+pub mod Decisions
+pub mod HeldLines
 pub mod Progressing
-pub mod Readings
+pub mod ReadFronts
 pub mod Searches
+pub mod Steps
+pub mod Turned

@@ -1,193 +1,171 @@
--- How far a reader has come: at the start, one command further, at the end and at a bad line.
-use Rattle.std.proofs.Common.{◌≡◌, ℕ, ◌+◌, ◌-◌, Bool, true, false, List, [], ◌∷◌, ◌++◌, length, take, drop, refl, sym, ◌∙◌, ap, subst, arith, append_assoc, length-append}
-use Rattle.std.proofs.lemmas.List.{append-nil, append_cancel_right, drop_at, take_at}
-use Rattle.std.specs.Prelude.{Contains, ◌&&◌, if◌then◌else◌, filter, Some, None, Result, Ok, Err}
+-- How far a reader has come: at the start, one line further, and at a bad line.
+use Rattle.std.proofs.Common.{◌≡◌, ◌≢◌, ℕ, ◌+◌, ◌-◌, Bool, true, false, List, [], ◌∷◌, ◌++◌, length, take, Option, Some, None, Ok, Err, refl, sym, ◌∙◌, ap, arith, append_assoc, length-append}
+use Rattle.std.proofs.lemmas.List.{append-nil, take_at}
+use Rattle.std.specs.Prelude.{Contains, IsTrue, filter}
 use Rattle.pst_model.specs.declared.faults.LineFault.{LineFault}
-use Rattle.pst_model.specs.declared.faults.LineFault.TheVariants.{Form}
 use Rattle.pst_model.specs.Command.{Command}
-use Rattle.pst_model.specs.Forms.{reading_of}
-use Rattle.session_text.specs.Lending.{Reader, next_at}
+use Rattle.pst_model.specs.Forms.{Reading}
+use Rattle.pst_model.specs.Text.{Line, bad_by, bad_read, behind_reading, commands_from, commands_of, commands_read, first_bad, first_bad_from, line_reading, lines_in, size_of, whole_lines}
 use Rattle.session_text.specs.Progress.{HasRead}
-use Rattle.pst_model.specs.Text.{Line, Read, Bad, End, bad_by, bad_read, behind_reading, commands_from, commands_of, commands_read, first_bad, first_bad_from, is_within, line_reading, lines_in, next_by, next_in, next_of, size_of, whole_lines}
-use Rattle.pst_model.proofs.Texts.{first_line, lines_in-ended, lines_in-none, whole_lines-none}
+use Rattle.session_text.specs.Reader.{Reader}
+use Rattle.pst_model.proofs.Texts.{lines_in-ended, lines_in-unended, whole_lines-none}
 
--- a line that says a command has its LF
-ended_line : (limit place : ℕ) (line : Line) (command : Command) → line_reading limit place line ≡ Ok command → line.ended ≡ true
-ended_line limit place line command reading = by line.ended (is_within limit place line) reading
-  where
-    by : (ended within : Bool) → (if ended && within then reading_of line.octets else Err Form) ≡ Ok command → ended ≡ true
-    by true within is = refl
-    by false within is = absurd cc
+-- the commands that a line says
+abbrev pub said_more : Option Command → List Command
+said_more (Some command) = command ∷ []
+said_more None = []
 
--- what comes next is a command: its line stands in front
-abbrev Front : (limit place : ℕ) → List ℕ → Command → (size : ℕ) → Type 0
-Front limit place whole command size = (line : List ℕ) × (rest : List ℕ) × (whole ≡ line ++ 10 ∷ rest) × ¬ (Contains line 10) × (size ≡ length line + 1) × (line_reading limit place (record { octets = line; ended = true }) ≡ Ok command)
+behind_said : (said : Option Command) (commands : List Command) → behind_reading (Ok said) commands ≡ said_more said ++ commands
+behind_said (Some command) commands = refl
+behind_said None commands = refl
 
-front_by : (limit place : ℕ) (whole : List ℕ) (command : Command) (size : ℕ) (line : Line) (lines : List Line) → lines_in whole ≡ line ∷ lines → line_reading limit place line ≡ Ok command → size_of line ≡ size → Front limit place whole command size
-front_by limit place whole command size line lines is reading sized =
-    let ended = ended_line limit place line command reading in
-    let front = first_line whole line lines is ended in
-    let same : line ≡ record { octets = line.octets; ended = true } = ap (λ (e : Bool). record { octets = line.octets; ended = e }) ended in (
-      line.octets,
-      front.0,
-      front.1,
-      front.2,
-      sym sized ∙ ap size_of same,
-      sym (ap (line_reading limit place) same) ∙ reading,
-    )
+-- the commands of lines, and the first bad one, behind a line that is not bad
+commands_more : (limit place : ℕ) (line : Line) (lines : List Line) (said : Option Command) → line_reading limit place line ≡ Ok said
+    → commands_from limit place (line ∷ lines) ≡ said_more said ++ commands_from limit (place + size_of line) lines
+commands_more limit place line lines said reading =
+    ap (λ (r : Reading). behind_reading r (commands_from limit (place + size_of line) lines)) reading ∙ behind_said said (commands_from limit (place + size_of line) lines)
 
-read_by : (size : ℕ) (command : Command) (long : ℕ) (reading : Result Command LineFault) → next_by long reading ≡ Read command size → (reading ≡ Ok command) × (long ≡ size)
-read_by size command long (Ok other) is = (cc, cc)
-read_by size command long (Err why) is = absurd cc
+bad_more : (limit place number : ℕ) (line : Line) (lines : List Line) (said : Option Command) → line_reading limit place line ≡ Ok said
+    → first_bad_from limit place number (line ∷ lines) ≡ first_bad_from limit (place + size_of line) (number + 1) lines
+bad_more limit place number line lines said reading = ap (λ (r : Reading). bad_by number r (first_bad_from limit (place + size_of line) (number + 1) lines)) reading
 
-bad_next : (why : LineFault) (long : ℕ) (reading : Result Command LineFault) → next_by long reading ≡ Bad why → reading ≡ Err why
-bad_next why long (Ok command) is = absurd cc
-bad_next why long (Err other) is = cc
+-- the same of lines of which this is the first
+commands_on : (limit place : ℕ) (done : List Command) (lines others : List Line) (line : Line) (said : Option Command) → lines ≡ line ∷ others → line_reading limit place line ≡ Ok said
+    → done ++ commands_from limit place lines ≡ (done ++ said_more said) ++ commands_from limit (place + size_of line) others
+commands_on limit place done lines others line said front reading =
+    ap (λ (ls : List Line). done ++ commands_from limit place ls) front
+    ∙ ap (λ (cs : List Command). done ++ cs) (commands_more limit place line others said reading)
+    ∙ sym (append_assoc done (said_more said) (commands_from limit (place + size_of line) others))
 
-no_end : (long : ℕ) (reading : Result Command LineFault) → next_by long reading ≡ End → ⊥
-no_end long (Ok command) is = cc
-no_end long (Err why) is = cc
+bad_on : (limit place number : ℕ) (lines others : List Line) (line : Line) (said : Option Command) → lines ≡ line ∷ others → line_reading limit place line ≡ Ok said
+    → first_bad_from limit place number lines ≡ first_bad_from limit (place + size_of line) (number + 1) others
+bad_on limit place number lines others line said front reading = ap (first_bad_from limit place number) front ∙ bad_more limit place number line others said reading
 
-front_of : (limit place : ℕ) (whole : List ℕ) (command : Command) (size : ℕ) → next_of limit place whole ≡ Read command size → Front limit place whole command size
-front_of limit place whole command size next = by (lines_in whole) refl next
-  where
-    by : (lines : List Line) → lines_in whole ≡ lines → next_in limit place lines ≡ Read command size → Front limit place whole command size
-    by [] is next = absurd cc
-    by (line ∷ lines) is next =
-        let read = read_by size command (size_of line) (line_reading limit place line) next in
-        front_by limit place whole command size line lines is read.0 read.1
+-- at the start
+pub has_read_none : (limit : ℕ) (text : List ℕ) → HasRead text [] (record { limit = limit; place = 0; number = 0; pending = []; closed = false; live = true }) text
+has_read_none limit text = record { behind = []; split = refl; commands = refl; bad = refl; at_end = λ is. absurd cc; commands_taken = λ before more. refl; bad_taken = λ before more. refl }
 
--- the commands of lines, and the first bad one, behind a line that says a command
-commands_more : (limit place : ℕ) (line : List ℕ) (lines : List Line) (command : Command) → line_reading limit place (record { octets = line; ended = true }) ≡ Ok command
-    → commands_from limit place (record { octets = line; ended = true } ∷ lines) ≡ command ∷ commands_from limit (place + (length line + 1)) lines
-commands_more limit place line lines command reading = ap (λ (r : Result Command LineFault). behind_reading r (commands_from limit (place + (length line + 1)) lines)) reading
+-- with octets that were taken
+pub has_read_held : (text : List ℕ) (done : List Command) (old : Reader) (before held left : List ℕ) → HasRead text done old before → held ++ left ≡ old.pending ++ before
+    → HasRead text done (record old { pending = held }) left
+has_read_held text done old before held left has same = record {
+  behind = has.behind;
+  split = has.split ∙ ap (λ (t : List ℕ). has.behind ++ t) (sym same);
+  commands = has.commands ∙ ap (λ (t : List ℕ). done ++ commands_from old.limit old.place (lines_in t)) (sym same);
+  bad = has.bad ∙ ap (λ (t : List ℕ). first_bad_from old.limit old.place (old.number + 1) (lines_in t)) (sym same);
+  at_end = λ closed. same ∙ has.at_end closed;
+  commands_taken = has.commands_taken;
+  bad_taken = has.bad_taken;
+}
 
-bad_more : (limit place number : ℕ) (line : List ℕ) (lines : List Line) (command : Command) → line_reading limit place (record { octets = line; ended = true }) ≡ Ok command
-    → first_bad_from limit place number (record { octets = line; ended = true } ∷ lines) ≡ first_bad_from limit (place + (length line + 1)) (number + 1) lines
-bad_more limit place number line lines command reading = ap (λ (r : Result Command LineFault). bad_by number r (first_bad_from limit (place + (length line + 1)) (number + 1) lines)) reading
+-- at the end
+pub has_read_closed : (text : List ℕ) (done : List Command) (reader : Reader) (left : List ℕ) (closed live : Bool) → HasRead text done reader left → (IsTrue closed → reader.pending ++ left ≡ []) → (closed ≡ false → reader.closed ≡ false)
+    → HasRead text done (record reader { closed = closed; live = live }) left
+has_read_closed text done reader left closed live has none before = record {
+  behind = has.behind;
+  split = has.split;
+  commands = has.commands;
+  bad = has.bad;
+  at_end = none;
+  commands_taken = λ is. has.commands_taken (before is);
+  bad_taken = λ is. has.bad_taken (before is);
+}
 
 -- the octets of a line behind others, with more behind it
 line_behind : (behind line more : List ℕ) → (behind ++ line ++ 10 ∷ []) ++ more ≡ behind ++ (line ++ 10 ∷ more)
 line_behind behind line more = simp append_assoc
 
-pub has_read_none : (limit : ℕ) (text : List ℕ) → HasRead text [] (record { limit = limit; place = 0; number = 0; pending = []; live = true }) text
-has_read_none limit text = record { behind = []; split = refl; commands = refl; bad = refl; commands_taken = λ more. refl; bad_taken = λ more. refl }
+line_left : (line rest left : List ℕ) → (line ++ 10 ∷ rest) ++ left ≡ line ++ 10 ∷ (rest ++ left)
+line_left line rest left = simp append_assoc
 
--- the same over plain values: the reader behind its line
-step : (text : List ℕ) (done : List Command) (old : Reader) (left left' pending : List ℕ) (command : Command) (live : Bool) (line : List ℕ)
-    → HasRead text done old left → old.pending ++ left ≡ line ++ 10 ∷ (pending ++ left') → ¬ (Contains line 10) → line_reading old.limit old.place (record { octets = line; ended = true }) ≡ Ok command
-    → HasRead text (done ++ command ∷ []) (record { limit = old.limit; place = old.place + (length line + 1); number = old.number + 1; pending = pending; live = live }) left'
-step text done old left left' pending command live line has is none reading = record {
-  behind = has.behind ++ line ++ 10 ∷ [];
-  split = has.split ∙ ap (λ (t : List ℕ). has.behind ++ t) is ∙ sym (line_behind has.behind line (pending ++ left'));
-  commands = has.commands ∙ behind_done (lines_in (old.pending ++ left)) (lines_in (pending ++ left')) (ap lines_in is ∙ lines_in-ended line (pending ++ left') none);
-  bad = has.bad ∙ bad_behind (lines_in (old.pending ++ left)) (lines_in (pending ++ left')) (ap lines_in is ∙ lines_in-ended line (pending ++ left') none);
-  commands_taken = λ more. ap (commands_read old.limit) (line_behind has.behind line more) ∙ has.commands_taken (line ++ 10 ∷ more)
-      ∙ behind_done (whole_lines (line ++ 10 ∷ more)) (whole_lines more) (ap (filter (λ (l : Line). l.ended)) (lines_in-ended line more none));
-  bad_taken = λ more. ap (bad_read old.limit) (line_behind has.behind line more) ∙ has.bad_taken (line ++ 10 ∷ more)
-      ∙ bad_behind (whole_lines (line ++ 10 ∷ more)) (whole_lines more) (ap (filter (λ (l : Line). l.ended)) (lines_in-ended line more none));
-}
+-- behind a line with its LF
+pub has_read_line : (text : List ℕ) (done : List Command) (mid : Reader) (left line rest : List ℕ) (said : Option Command)
+    → HasRead text done mid left → mid.pending ≡ line ++ 10 ∷ rest → ¬ (Contains line 10) → line_reading mid.limit mid.place (record { octets = line; ended = true }) ≡ Ok said
+    → HasRead text (done ++ said_more said) (record mid { place = mid.place + (length line + 1); number = mid.number + 1; pending = rest }) left
+has_read_line text done mid left line rest said has is none reading =
+    let front : mid.pending ++ left ≡ line ++ 10 ∷ (rest ++ left) = ap (λ (t : List ℕ). t ++ left) is ∙ line_left line rest left in
+    let first : Line = record { octets = line; ended = true } in record {
+      behind = has.behind ++ line ++ 10 ∷ [];
+      split = has.split ∙ ap (λ (t : List ℕ). has.behind ++ t) front ∙ sym (line_behind has.behind line (rest ++ left));
+      commands = has.commands ∙ commands_on mid.limit mid.place done (lines_in (mid.pending ++ left)) (lines_in (rest ++ left)) first said (ap lines_in front ∙ lines_in-ended line (rest ++ left) none) reading;
+      bad = has.bad ∙ bad_on mid.limit mid.place (mid.number + 1) (lines_in (mid.pending ++ left)) (lines_in (rest ++ left)) first said (ap lines_in front ∙ lines_in-ended line (rest ++ left) none) reading;
+      at_end = λ closed. absurd (some line (rest ++ left) (sym front ∙ has.at_end closed));
+      commands_taken = λ before more.
+          ap (commands_read mid.limit) (line_behind has.behind line more) ∙ has.commands_taken before (line ++ 10 ∷ more)
+          ∙ commands_on mid.limit mid.place done (whole_lines (line ++ 10 ∷ more)) (whole_lines more) first said (ap (filter (λ (l : Line). l.ended)) (lines_in-ended line more none)) reading;
+      bad_taken = λ before more.
+          ap (bad_read mid.limit) (line_behind has.behind line more) ∙ has.bad_taken before (line ++ 10 ∷ more)
+          ∙ bad_on mid.limit mid.place (mid.number + 1) (whole_lines (line ++ 10 ∷ more)) (whole_lines more) first said (ap (filter (λ (l : Line). l.ended)) (lines_in-ended line more none)) reading;
+    }
   where
-    behind_done : (lines others : List Line) → lines ≡ record { octets = line; ended = true } ∷ others
-        → done ++ commands_from old.limit old.place lines ≡ (done ++ command ∷ []) ++ commands_from old.limit (old.place + (length line + 1)) others
-    behind_done lines others front =
-        ap (λ (ls : List Line). done ++ commands_from old.limit old.place ls) front
-        ∙ ap (λ (cs : List Command). done ++ cs) (commands_more old.limit old.place line others command reading)
-        ∙ sym (append_assoc done (command ∷ []) (commands_from old.limit (old.place + (length line + 1)) others))
+    some : (xs ys : List ℕ) → xs ++ 10 ∷ ys ≡ [] → ⊥
+    some [] ys is = cc
+    some (x ∷ xs) ys is = cc
 
-    bad_behind : (lines others : List Line) → lines ≡ record { octets = line; ended = true } ∷ others
-        → first_bad_from old.limit old.place (old.number + 1) lines ≡ first_bad_from old.limit (old.place + (length line + 1)) (old.number + 1 + 1) others
-    bad_behind lines others front =
-        ap (first_bad_from old.limit old.place (old.number + 1)) front ∙ bad_more old.limit old.place (old.number + 1) line others command reading
+-- behind the last line, which has no LF
+pub has_read_last : (text : List ℕ) (done : List Command) (mid : Reader) (left : List ℕ) (said : Option Command)
+    → HasRead text done mid left → left ≡ [] → mid.pending ≢ [] → ¬ (Contains mid.pending 10) → line_reading mid.limit mid.place (record { octets = mid.pending; ended = false }) ≡ Ok said
+    → HasRead text (done ++ said_more said) (record mid { place = mid.place + length mid.pending; number = mid.number + 1; pending = []; closed = true }) left
+has_read_last text done mid left said has end some none reading =
+    let whole : mid.pending ++ left ≡ mid.pending = ap (λ (t : List ℕ). mid.pending ++ t) end ∙ append-nil mid.pending in
+    let first : Line = record { octets = mid.pending; ended = false } in
+    let front : lines_in (mid.pending ++ left) ≡ first ∷ [] = ap lines_in whole ∙ lines_in-unended mid.pending none some in
+    let nothing : lines_in left ≡ [] = ap lines_in end in
+    let size : mid.place + (length mid.pending + 0) ≡ mid.place + length mid.pending = omega arith in record {
+      behind = has.behind ++ mid.pending;
+      split = has.split ∙ sym (append_assoc has.behind mid.pending left);
+      commands = has.commands ∙ commands_on mid.limit mid.place done (lines_in (mid.pending ++ left)) [] first said front reading
+          ∙ ap (λ (n : ℕ). (done ++ said_more said) ++ commands_from mid.limit n []) size
+          ∙ sym (ap (λ (ls : List Line). (done ++ said_more said) ++ commands_from mid.limit (mid.place + length mid.pending) ls) nothing);
+      bad = has.bad ∙ bad_on mid.limit mid.place (mid.number + 1) (lines_in (mid.pending ++ left)) [] first said front reading
+          ∙ ap (λ (n : ℕ). first_bad_from mid.limit n (mid.number + 1 + 1) []) size
+          ∙ sym (ap (first_bad_from mid.limit (mid.place + length mid.pending) (mid.number + 1 + 1)) nothing);
+      at_end = λ closed. end;
+      commands_taken = λ before. absurd cc;
+      bad_taken = λ before. absurd cc;
+    }
 
-same_reader : (new : Reader) (limit place number : ℕ) → new.limit ≡ limit → new.place ≡ place → new.number ≡ number → record { limit = limit; place = place; number = number; pending = new.pending; live = new.live } ≡ new
-same_reader new limit place number limits places numbers =
-    ap (λ (l : ℕ). record { limit = l; place = place; number = number; pending = new.pending; live = new.live }) (sym limits)
-    ∙ ap (λ (p : ℕ). record { limit = new.limit; place = p; number = number; pending = new.pending; live = new.live }) (sym places)
-    ∙ ap (λ (n : ℕ). record { limit = new.limit; place = new.place; number = n; pending = new.pending; live = new.live }) (sym numbers)
-
-behind_line : (line rest : List ℕ) (size : ℕ) → size ≡ length line + 1 → drop size (line ++ 10 ∷ rest) ≡ rest
-behind_line line rest size sized =
-    ap (drop size) (sym (append_assoc line (10 ∷ []) rest)) ∙ drop_at (line ++ 10 ∷ []) rest size (length-append line (10 ∷ []) ∙ sym sized)
-
--- one command further
-pub has_read_more : (text : List ℕ) (done : List Command) (old new : Reader) (left left' : List ℕ) (command : Command) (size : ℕ)
-    → HasRead text done old left → next_at old left ≡ Read command size → new.limit ≡ old.limit → new.place ≡ old.place + size → new.number ≡ old.number + 1 → new.pending ++ left' ≡ drop size (old.pending ++ left)
-    → HasRead text (done ++ command ∷ []) new left'
-has_read_more text done old new left left' command size has next limit place number pending =
-    let front = front_of old.limit old.place (old.pending ++ left) command size next in
-    let rest : new.pending ++ left' ≡ front.1 = pending ∙ ap (drop size) front.2 ∙ behind_line front.0 front.1 size front.4 in
-    subst (λ (r : Reader). HasRead text (done ++ command ∷ []) r left')
-    (same_reader new old.limit (old.place + (length front.0 + 1)) (old.number + 1) limit (place ∙ ap (λ (n : ℕ). old.place + n) front.4) number)
-    (step text done old left left' new.pending command new.live front.0 has (front.2 ∙ ap (λ (t : List ℕ). front.0 ++ 10 ∷ t) (sym rest)) front.3 front.5)
-
--- at the end nothing is pending or left
-nothing_next : (limit place : ℕ) (whole : List ℕ) → next_of limit place whole ≡ End → whole ≡ []
-nothing_next limit place whole next = lines_in-none whole (by (lines_in whole) next)
-  where
-    by : (lines : List Line) → next_in limit place lines ≡ End → lines ≡ []
-    by [] is = refl
-    by (line ∷ lines) is = absurd (no_end (size_of line) (line_reading limit place line) is)
-
-pub has_read_end : (text : List ℕ) (done : List Command) (reader : Reader) (left : List ℕ) → HasRead text done reader left → next_at reader left ≡ End
-    → (commands_of reader.limit text ≡ done) × (first_bad reader.limit text ≡ None) × (reader.pending ++ left ≡ [])
-has_read_end text done reader left has next =
-    let none = nothing_next reader.limit reader.place (reader.pending ++ left) next in (
-      has.commands ∙ ap (λ (t : List ℕ). done ++ commands_from reader.limit reader.place (lines_in t)) none ∙ append-nil done,
-      has.bad ∙ ap (λ (t : List ℕ). first_bad_from reader.limit reader.place (reader.number + 1) (lines_in t)) none,
-      none,
-    )
-
--- at the end each line of the text is whole
-whole_at_end : (text : List ℕ) (done : List Command) (reader : Reader) (left : List ℕ) (has : HasRead text done reader left) → next_at reader left ≡ End → text ≡ has.behind ++ []
-whole_at_end text done reader left has next = has.split ∙ ap (λ (t : List ℕ). has.behind ++ t) (nothing_next reader.limit reader.place (reader.pending ++ left) next)
-
-pub has_read_end' : (text : List ℕ) (done : List Command) (reader : Reader) (left : List ℕ) → HasRead text done reader left → next_at reader left ≡ End → commands_read reader.limit text ≡ done
-has_read_end' text done reader left has next = ap (commands_read reader.limit) (whole_at_end text done reader left has next) ∙ has.commands_taken [] ∙ append-nil done
-
-pub bad_read_end : (text : List ℕ) (done : List Command) (reader : Reader) (left : List ℕ) → HasRead text done reader left → next_at reader left ≡ End → bad_read reader.limit text ≡ None
-bad_read_end text done reader left has next = ap (bad_read reader.limit) (whole_at_end text done reader left has next) ∙ has.bad_taken []
-
-pub has_read_bad : (text : List ℕ) (done : List Command) (reader : Reader) (left : List ℕ) (why : LineFault) → HasRead text done reader left → next_at reader left ≡ Bad why
+-- at a bad line
+pub has_read_bad : (text : List ℕ) (done : List Command) (reader : Reader) (left : List ℕ) (line : Line) (lines : List Line) (why : LineFault) → HasRead text done reader left
+    → lines_in (reader.pending ++ left) ≡ line ∷ lines → line_reading reader.limit reader.place line ≡ Err why
     → (commands_of reader.limit text ≡ done) × (first_bad reader.limit text ≡ Some (reader.number + 1, why))
-has_read_bad text done reader left why has next =
-    let bad = by (lines_in (reader.pending ++ left)) next in (has.commands ∙ ap (λ (cs : List Command). done ++ cs) bad.0 ∙ append-nil done, has.bad ∙ bad.1)
-  where
-    by : (lines : List Line) → next_in reader.limit reader.place lines ≡ Bad why
-        → (commands_from reader.limit reader.place lines ≡ []) × (first_bad_from reader.limit reader.place (reader.number + 1) lines ≡ Some (reader.number + 1, why))
-    by [] is = absurd cc
-    by (line ∷ lines) is =
-        let reading = bad_next why (size_of line) (line_reading reader.limit reader.place line) is in (
-          ap (λ (r : Result Command LineFault). behind_reading r (commands_from reader.limit (reader.place + size_of line) lines)) reading,
-          ap (λ (r : Result Command LineFault). bad_by (reader.number + 1) r (first_bad_from reader.limit (reader.place + size_of line) (reader.number + 1 + 1) lines)) reading,
-        )
-
-taken_split : (text behind pending left' whole : List ℕ) → text ≡ behind ++ whole → pending ++ left' ≡ whole → text ≡ (behind ++ pending) ++ left'
-taken_split text behind pending left' whole split same = split ∙ ap (λ (t : List ℕ). behind ++ t) (sym same) ∙ sym (append_assoc behind pending left')
-
--- whatever more is taken, the commands that were read stand in front of those of what was taken
-pub has_read_taken : (text : List ℕ) (done : List Command) (old : Reader) (left : List ℕ) → HasRead text done old left → (pending left' : List ℕ) → pending ++ left' ≡ old.pending ++ left
-    → (taken : List ℕ) × (text ≡ taken ++ left') × ((rest : List Command) × (done ++ rest ≡ commands_read old.limit taken))
-has_read_taken text done old left has pending left' same = (
-  has.behind ++ pending,
-  taken_split text has.behind pending left' (old.pending ++ left) has.split same,
-  (commands_from old.limit old.place (whole_lines pending), sym (has.commands_taken pending)),
+has_read_bad text done reader left line lines why has front reading = (
+  has.commands ∙ ap (λ (ls : List Line). done ++ commands_from reader.limit reader.place ls) front
+      ∙ ap (λ (r : Reading). done ++ behind_reading r (commands_from reader.limit (reader.place + size_of line) lines)) reading ∙ append-nil done,
+  has.bad ∙ ap (first_bad_from reader.limit reader.place (reader.number + 1)) front
+      ∙ ap (λ (r : Reading). bad_by (reader.number + 1) r (first_bad_from reader.limit (reader.place + size_of line) (reader.number + 1 + 1) lines)) reading,
 )
 
--- where no whole line is pending, they are all the commands of what was taken
-pub has_read_unended : (text : List ℕ) (done : List Command) (old : Reader) (left : List ℕ) → HasRead text done old left → (pending left' : List ℕ) → pending ++ left' ≡ old.pending ++ left → ¬ (Contains pending 10)
-    → (taken : List ℕ) × (text ≡ taken ++ left') × (commands_read old.limit taken ≡ done) × (bad_read old.limit taken ≡ None)
-has_read_unended text done old left has pending left' same none = (
-  has.behind ++ pending,
-  taken_split text has.behind pending left' (old.pending ++ left) has.split same,
-  has.commands_taken pending ∙ ap (λ (ls : List Line). done ++ commands_from old.limit old.place ls) (whole_lines-none pending none) ∙ append-nil done,
-  has.bad_taken pending ∙ ap (first_bad_from old.limit old.place (old.number + 1)) (whole_lines-none pending none),
+-- at the end each command of the text was read, and no line is bad
+pub has_read_end : (text : List ℕ) (done : List Command) (reader : Reader) (left : List ℕ) → HasRead text done reader left → reader.pending ++ left ≡ []
+    → (commands_of reader.limit text ≡ done) × (first_bad reader.limit text ≡ None)
+has_read_end text done reader left has none = (
+  has.commands ∙ ap (λ (t : List ℕ). done ++ commands_from reader.limit reader.place (lines_in t)) none ∙ append-nil done,
+  has.bad ∙ ap (λ (t : List ℕ). first_bad_from reader.limit reader.place (reader.number + 1) (lines_in t)) none,
+)
+
+-- What was taken of the text, of which so much is left: the commands read stand in front of all its commands, and before the
+-- end of the text of those of its whole lines.
+pub has_read_taken : (text : List ℕ) (done : List Command) (reader : Reader) (left : List ℕ) (has : HasRead text done reader left)
+    → (text ≡ (has.behind ++ reader.pending) ++ left) × ((rest : List Command) × (done ++ rest ≡ commands_of reader.limit text))
+has_read_taken text done reader left has = (
+  has.split ∙ sym (append_assoc has.behind reader.pending left),
+  (commands_from reader.limit reader.place (lines_in (reader.pending ++ left)), sym has.commands),
+)
+
+pub has_read_whole : (text : List ℕ) (done : List Command) (reader : Reader) (left : List ℕ) (has : HasRead text done reader left) → reader.closed ≡ false
+    → (rest : List Command) × (done ++ rest ≡ commands_read reader.limit (has.behind ++ reader.pending))
+has_read_whole text done reader left has before = (commands_from reader.limit reader.place (whole_lines reader.pending), sym (has.commands_taken before reader.pending))
+
+-- where no whole line is pending, they are all the commands of the whole lines that were taken
+pub has_read_unended : (text : List ℕ) (done : List Command) (reader : Reader) (left : List ℕ) (has : HasRead text done reader left) → reader.closed ≡ false → ¬ (Contains reader.pending 10)
+    → (commands_read reader.limit (has.behind ++ reader.pending) ≡ done) × (bad_read reader.limit (has.behind ++ reader.pending) ≡ None)
+has_read_unended text done reader left has before none = (
+  has.commands_taken before reader.pending ∙ ap (λ (ls : List Line). done ++ commands_from reader.limit reader.place ls) (whole_lines-none reader.pending none) ∙ append-nil done,
+  has.bad_taken before reader.pending ∙ ap (first_bad_from reader.limit reader.place (reader.number + 1)) (whole_lines-none reader.pending none),
 )
 
 -- what was taken is known by what is left
-pub taken_unique : (text a b left : List ℕ) → text ≡ a ++ left → text ≡ b ++ left → a ≡ b
-taken_unique text a b left by_a by_b = append_cancel_right a b left (sym by_a ∙ by_b)
-
 pub taken_is : (text taken left : List ℕ) → text ≡ taken ++ left → take (length text - length left) text ≡ taken
 taken_is text taken left is =
     ap (take (length text - length left)) is ∙ take_at taken left (length text - length left) (omega (arith, ap length is, length-append taken left))

@@ -1,6 +1,11 @@
 pub mod Find
+pub mod Fronts
 pub mod Gain
 pub mod Lending
+pub mod Passing
 pub mod Progress
 pub mod Read
+pub mod Reader
 pub mod Shown
+pub mod Trims
+pub mod Turns

@@ -11,4 +11,6 @@ pub enum Command<'a> {
     Request { moment: u64, packet: PacketView<'a> },
     /// The downlink has room for one packet.
     Grant { moment: u64 },
+    /// Nothing is to be done.
+    Idle { moment: u64 },
 }

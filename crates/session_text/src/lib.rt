@@ -3,10 +3,12 @@
 
 mod command;
 mod fault;
+mod find;
 mod form;
 mod held;
 mod lines;
 mod output;
+mod trim;
 
 pub use command::Command;
 pub use fault::LineEnd;

@@ -1,14 +1,14 @@
 -- A session: what it has carried out so far, and what its ending says.
-use Rattle.std.specs.Prelude.{◌≡◌, ◌≢◌, ◌⊎◌, ◌≤◌, ◌+◌, ◌-◌, ◌∷◌, ◌++◌, ℕ, Bool, true, List, [], length, take, IsTrue, Some, None, MatchOption, ⊤}
+use Rattle.std.specs.Prelude.{◌≡◌, ◌≢◌, ◌⊎◌, ◌≤◌, ◌+◌, ◌-◌, ◌∷◌, ◌++◌, ℕ, Bool, true, false, List, [], length, take, IsTrue, Some, None, MatchOption, ⊤}
 use Rattle.board.specs.Counts.{Rose, Sends}
 use Rattle.board.specs.Meaning.{BoardMeaning, SourceMeaning, TellsFlash, TellsLink}
 use Rattle.board.specs.Moments.{GainsFront, SendsOnly}
 use Rattle.board.specs.Reads.{FlashStays}
 use Rattle.handler.specs.Sending.{BreaksIn, SendsLines}
 use Rattle.handler.specs.Table.{is_stored}
-use Rattle.pst_model.specs.Command.{Command, Arrival, Grant, Request}
+use Rattle.pst_model.specs.Command.{Command, Arrival, Grant, Idle, Request}
 use Rattle.pst_model.specs.Rules.{Output}
-use Rattle.session_text.specs.Lending.{Reader}
+use Rattle.session_text.specs.Reader.{Reader, spare}
 use Rattle.session_text.specs.Progress.{HasRead}
 use Rattle.pst_model.specs.Text.{bad_read, commands_of, commands_read, first_bad}
 use Rattle.station.specs.declared.ending.Ending.{Ending}
@@ -31,19 +31,26 @@ lines_for blocks commands = lines_of (outputs_for blocks commands)
 abbrev pub taken_of : (text left : List ℕ) → List ℕ
 taken_of text left = take (length text - length left) text
 
--- the commands read of a text, of which these octets are left
+-- The commands of the lines whose LF was taken too, of a text of which these octets are left.
+abbrev pub whole_read : (text left : List ℕ) → List Command
+whole_read text left = commands_read text_limit (taken_of text left)
+
+-- The commands read of a text, of which these octets are left: all of them where nothing is left, since then the
+-- last line is whole without an LF, and else those of the lines whose LF was taken too.
 abbrev pub read_of : (text left : List ℕ) → List Command
-read_of text left = commands_read text_limit (taken_of text left)
+read_of text [] = commands_of text_limit text
+read_of text (octet ∷ left) = whole_read text (octet ∷ left)
 
 -- a reader that has read nothing yet
 abbrev pub IsStart : Reader → Type 0
-IsStart reader = reader ≡ record { limit = text_limit; place = 0; number = 0; pending = []; live = true }
+IsStart reader = reader ≡ record { limit = text_limit; place = 0; number = 0; pending = []; closed = false; live = true }
 
 -- A command that may want memory: an arrival that is stored.
 abbrev pub IsStoredArrival : Command → Table → Type 0
 IsStoredArrival (Arrival moment packet) table = IsTrue (is_stored packet table)
 IsStoredArrival (Request moment packet) table = ⊥
 IsStoredArrival (Grant moment) table = ⊥
+IsStoredArrival (Idle moment) table = ⊥
 
 -- Where memory may be wanting, with these commands carried out: none, and nothing was taken of the text; or those
 -- in front of an arrival that is stored.
@@ -65,12 +72,13 @@ EndsReading blocks text left NoMemory = (done : List Command) × StopsAt blocks 
 EndsReading blocks text left BadWords = ⊤
 
 -- What an ending says of what was sent: all of the outputs for the text's commands, for the commands before its
--- first bad line, for the commands read, and for those carried out where memory was wanting. Where the link
--- failed, it broke within the outputs for the commands read. Where the flash failed nothing was sent.
+-- first bad line, for those of the whole lines that were taken where the source failed, and for those carried out
+-- where memory was wanting. Where the link failed, it broke within the outputs for the commands read. Where the flash
+-- failed nothing was sent.
 abbrev pub EndsSending : (blocks : ℕ) → (text left : List ℕ) → (Sent Broken : List Output → Type 0) → Ending → Type 0
 EndsSending blocks text left Sent Broken Done = Sent (outputs_for blocks (commands_of text_limit text))
 EndsSending blocks text left Sent Broken (BadLine line why) = Sent (outputs_for blocks (commands_of text_limit text))
-EndsSending blocks text left Sent Broken SourceFault = Sent (outputs_for blocks (read_of text left))
+EndsSending blocks text left Sent Broken SourceFault = Sent (outputs_for blocks (whole_read text left))
 EndsSending blocks text left Sent Broken LinkFault = Broken (outputs_for blocks (read_of text left))
 EndsSending blocks text left Sent Broken FlashFault = Sent []
 EndsSending blocks text left Sent Broken NoMemory = (done : List Command) × StopsAt blocks text left done × Sent (outputs_for blocks done)
@@ -115,7 +123,7 @@ module _ {B S : Type 0} (means : BoardMeaning B) (input : SourceMeaning S) where
     pub source_faults : input.faults source' ≡ input.faults source
     pub takes_from : input.takes source ≤ input.takes source'
     pub takes_to : IsTrue (input.tells source)
-        → input.takes source' + length (input.left source') ≤ input.takes source + length (input.left source)
+        → input.takes source' + length (input.left source') + spare reader ≤ input.takes source + length (input.left source) + 1
 
   -- A session that began with the first board and source ended so with the others.
   pub record Ended (board board' : B) (source source' : S) (ending : Ending) : Type 0 where

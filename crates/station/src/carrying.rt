@@ -43,6 +43,7 @@ fn carry_out<B: Board>(
         Command::Arrival { moment, packet } => handler.arrival(alloc, board, moment, packet),
         Command::Request { moment, packet } => handler.request(alloc, board, moment, packet),
         Command::Grant { moment } => handler.grant(board, moment),
+        Command::Idle { moment } => handler.idle(board, moment),
     }
 }
 

@@ -70,10 +70,19 @@ fn sessions_end_as_their_texts_say(rt: HostRuntime) -> Result<(), Fail> {
         ),
         (
             "A 000000000010 Paa\nG 000000000011",
-            bad(2, LineFault::Form),
+            Ending::Done,
+            "1 Paa\n",
+        ),
+        (
+            "# pass 1\r\n\r\n A\t000000000010  Paa\nI 000000000011\nG 000000000012\r",
+            Ending::Done,
+            "1 Paa\n",
+        ),
+        (
+            "# pass 1\n\n  a 000000000010 00",
+            bad(3, LineFault::Form),
             "",
         ),
-        ("# a comment\n", bad(1, LineFault::Form), ""),
     ];
     for (text, ending, sent) in rows {
         let text = text.replace(alloc, "P", FRONT)?;

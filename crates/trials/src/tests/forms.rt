@@ -8,9 +8,8 @@ use std::process::Abort;
 use std::test::Fail;
 
 // In each line P stands for the 40 digits of a packet.
-const LINES: [&[u8]; 115] = [
+const LINES: [&[u8]; 94] = [
     // fields missing
-    b"\n",
     b"A\n",
     b"G\n",
     b"A \n",
@@ -61,7 +60,6 @@ const LINES: [&[u8]; 115] = [
     b"r 000000000010 P\n",
     b"R 000000000010\n",
     b"I 000000000010 P\n",
-    b"I 000000000011\n",
     b"R\n",
     // other digits: those next to 0 and 9, A and F, a and f
     b"A 0000000000/0 P\n",
@@ -91,36 +89,15 @@ const LINES: [&[u8]; 115] = [
     b"A 000000000010 0xP\n",
     b"A 000000000010 -1P\n",
     b"A 000000000010 P--\n",
-    // tabs
-    b"\tA 000000000010 P\n",
-    b"A\t000000000010 P\n",
-    b"A 000000000010\tP\n",
-    b"A 000000000010 P\t\n",
-    b"A 000000000010 \tP\n",
-    b"G\t000000000011\n",
-    b"G 000000000011\t\n",
-    b"\t\n",
-    // CR
-    b"A 000000000010 P\r\n",
+    // CR within, or two
     b"A 000000000010\rP\n",
-    b"G 000000000011\r\n",
+    b"A 000000000010 P\r\r\n",
+    b"A 000000000010 P\r \n",
+    b"A\x0b000000000010 P\n",
+    b"A\x0c000000000010 P\n",
     b"G\r000000000011\n",
-    b"\r\n",
     b"\rG 000000000011\n",
-    // spaces in front, behind and twice
-    b" A 000000000010 P\n",
-    b"A  000000000010 P\n",
-    b"A 000000000010  P\n",
-    b"A 000000000010 P \n",
-    b"A 000000000010 P  \n",
-    b" G 000000000011\n",
-    b"G  000000000011\n",
-    b"G 000000000011 \n",
-    b" \n",
-    // comments
-    b"#\n",
-    b"# a comment\n",
-    b"#A 000000000010 P\n",
+    // comments behind fields
     b"A 000000000010 P # a comment\n",
     b"G 000000000011# a comment\n",
     // NUL and octets above 127
@@ -138,15 +115,33 @@ const LINES: [&[u8]; 115] = [
 ];
 
 // Last lines with no LF.
-const LAST: [&[u8]; 8] = [
-    b"G 000000000011",
-    b"A 000000000010 P",
-    b"A 000000000010 P\r",
+const LAST: [&[u8]; 6] = [
+    b"G 00000000001",
+    b"A 000000000010 P\r\r",
     b"G",
-    b" ",
-    b"#",
+    b"g 000000000011",
     b"\0",
     b"\xff",
+];
+
+// What carries out an arrival and its grant, in other forms of the same lines.
+const OTHERS: [&[u8]; 16] = [
+    b"A 000000000010 P\r\nG 000000000011\r\n",
+    b"A 000000000010 P\nG 000000000011",
+    b"A 000000000010 P\nG 000000000011\r",
+    b"\tA 000000000010 P\nG\t000000000011\t\n",
+    b"A\t000000000010 P\nG 000000000011\n",
+    b"A 000000000010\tP\t\nG 000000000011\n",
+    b"A 000000000010 \t P  \n  G  000000000011 \r\n",
+    b"# a comment\nA 000000000010 P\nG 000000000011\n",
+    b"#A 000000000010 P\nA 000000000010 P\n \t# P\nG 000000000011\n#",
+    b"\n\r\n \t\r\nA 000000000010 P\n\nG 000000000011\n\n",
+    b"I 000000000001\nA 000000000010 P\nI 000000000010\nG 000000000011\nI 000000000012\n",
+    b"A 000000000010 P\nG 000000000011\n ",
+    b"A 000000000010 P\nG 000000000011\n\r",
+    b"A 000000000010 P\nG 00000000000A\n",
+    b"A 000000000010 P\nG 00000000000a\n",
+    b"A 000000000010 P\nG FFFFFFFFFFFF\n",
 ];
 
 // Appends a line, with digits for each P.
@@ -201,6 +196,44 @@ fn a_line_of_no_known_form_ends_the_session(rt: HostRuntime) -> Result<(), Fail>
     }
     for line in LAST {
         ends_the_session(&rt, rt.alloc(), line, b"")?;
+    }
+    Ok(())
+}
+
+#[test]
+fn other_forms_of_a_line_are_carried_out_as_it_is(rt: HostRuntime) -> Result<(), Fail> {
+    let alloc = rt.alloc();
+    let digits = digits_of(alloc, 20, 0x0864, 13, 0xaa)?;
+    let mut sent = Vec::new(alloc);
+    push_line(&mut sent, b"1 P\n", &digits)?;
+    for lines in OTHERS {
+        let mut text = Vec::new(alloc);
+        push_line(&mut text, lines, &digits)?;
+        for most in [1, 7, 4096] {
+            let (ending, output) = session(alloc, &text, most, None)?;
+            assert_eq!(rt; ending, Ending::Done, "takes of {most} of {text:?}");
+            assert!(rt; output == sent, "takes of {most} of {text:?}");
+        }
+    }
+    Ok(())
+}
+
+#[test]
+fn a_text_may_be_cut_at_every_octet(rt: HostRuntime) -> Result<(), Fail> {
+    let alloc = rt.alloc();
+    let digits = digits_of(alloc, 20, 0x0864, 13, 0xaa)?;
+    let mut sent = Vec::new(alloc);
+    push_line(&mut sent, b"1 P\n", &digits)?;
+    let mut text = Vec::new(alloc);
+    push_line(
+        &mut text,
+        b"# pass 1\r\n\n \tA  000000000010\tP \r\nI 000000000010\nG 000000000011\r",
+        &digits,
+    )?;
+    for most in 1..text.len() {
+        let (ending, output) = session(alloc, &text, most, None)?;
+        assert_eq!(rt; ending, Ending::Done, "cut at {most}");
+        assert!(rt; output == sent, "cut at {most}");
     }
     Ok(())
 }

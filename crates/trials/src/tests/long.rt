@@ -62,12 +62,12 @@ fn long_lines() -> [Row; 14] {
         (arrival, b'g', 131_199, form),
         (arrival, b'0', 131_200, form),
         (b"G ", b'0', 131_200, form),
-        (arrival, b'0', 131_201, form),
-        (b"G 000000000012", b' ', 131_201, form),
-        (b"", b'#', 131_201, form),
-        (arrival, b'0', 1_000_000, form),
-        (arrival, b'0', 1_000_001, form),
-        (b"", b'\0', 1_000_000, form),
+        (arrival, b'0', 131_201, LineFault::LongLine),
+        (b"G 000000000012", b' ', 131_201, LineFault::LongLine),
+        (b"", b'#', 131_201, LineFault::LongLine),
+        (arrival, b'0', 1_000_000, LineFault::LongLine),
+        (arrival, b'0', 1_000_001, LineFault::LongLine),
+        (b"", b'\0', 1_000_000, LineFault::LongLine),
     ]
 }
 
@@ -78,7 +78,7 @@ fn long_lines_end_the_session(rt: HostRuntime) -> Result<(), Fail> {
         let mut text = BEFORE.to_vec(alloc)?;
         push_long(&mut text, front, fill, length)?;
         // with no LF, and so the last line
-        ends_at_third(&rt, alloc, &text, LineFault::Form)?;
+        ends_at_third(&rt, alloc, &text, why)?;
         text.extend_from_slice(b"\nA 000000000012 00010000000001\nG 000000000013\n")?;
         ends_at_third(&rt, alloc, &text, why)?;
     }

@@ -1,24 +1,14 @@
-use Rattle.std.proofs.Common.{◌∙◌, sym}
-use Rattle.std.proofs.lemmas.Result.{err_from_is_err_and}
-use Rattle.pst_model.specs.Command.{Arrival, Request}
-use Rattle.session_text.proofs.Readings.{reading_of-arrival, reading_of-request}
+use Rattle.std.proofs.Common.{◌≡◌, Ok, Err, ◌∙◌, sym, ap, subst}
+use Rattle.std.specs.Prelude.{MatchResult}
+use Rattle.pst_model.specs.Fields.{fields_of}
+use Rattle.pst_model.specs.Forms.{Reading, reading_in}
+use Rattle.session_text.specs.Fronts.{front_reading}
+use Rattle.session_text.specs.Read.{said_in}
+use Rattle.session_text.proofs.ReadFronts.{line_says}
 use Rattle.session_text.proofs.form.read_form.Goals as goal
 
-pub returns-in_err-moment-clause-reading : goal.returns-in_err-moment-clause-reading
-returns-in_err-moment-clause-reading c =
-    let p = err_from_is_err_and c.from_residual.result c.from_residual.ensures.1 in
-    rw (p.1, p.2) (reading_of-arrival c.args.line.now (sym c.has_places.ensures ∙ c.if-has_places.true) ∙ c.in_err-moment.ensures.reading Arrival)
-
-pub returns-then-has_places-clause-reading : goal.returns-then-has_places-clause-reading
-returns-then-has_places-clause-reading c =
-    reading_of-arrival c.args.line.now (sym c.has_places.ensures ∙ c.if-has_places.true) ∙ c.in_ok-moment.ensures.reading Arrival
-
-pub returns-in_err-moment-2-clause-reading : goal.returns-in_err-moment-2-clause-reading
-returns-in_err-moment-2-clause-reading c =
-    let p = err_from_is_err_and c.from_residual-in_err-moment-2.result c.from_residual-in_err-moment-2.ensures.1 in
-    rw (p.1, p.2)
-    (reading_of-request c.args.line.now (sym c.has_places.ensures ∙ c.if-has_places.false) (sym c.has_places-2.ensures ∙ c.if-has_places-2.true) ∙ c.in_err-moment-2.ensures.reading Request)
-
-pub returns-then-has_places-2-clause-reading : goal.returns-then-has_places-2-clause-reading
-returns-then-has_places-2-clause-reading c =
-    reading_of-request c.args.line.now (sym c.has_places.ensures ∙ c.if-has_places.false) (sym c.has_places-2.ensures ∙ c.if-has_places-2.true) ∙ c.in_ok-moment-2.ensures.reading Request
+pub returns-clause-reading : goal.returns-clause-reading
+returns-clause-reading c =
+    let end = c.trim_end.ensures.line in
+    let says = ap (λ l. reading_in (fields_of l)) (sym c.without_return.ensures.line) ∙ line_says c.without_return.result.now c.trim_end.result.now end.blanks end.split end.all end.last ∙ ap front_reading (sym c.trim_front.ensures.line) in
+    subst (λ (r : Reading). MatchResult c.read_front.result (λ said. r ≡ Ok (said_in c.read_front.new.packet said)) (λ why. r ≡ Err why)) (sym says) c.read_front.ensures.reading

@@ -20,3 +20,6 @@ returns-in-Grant-clause-done g c = rw c.in-Grant.is c.grant.ensures.done
 
 pub returns-in-Grant-clause-breaks : goal.returns-in-Grant-clause-breaks
 returns-in-Grant-clause-breaks g c = rw c.in-Grant.is c.grant.ensures.breaks
+
+pub returns-in-Idle-clause-done : goal.returns-in-Idle-clause-done
+returns-in-Idle-clause-done g c = rw c.in-Idle.is c.idle.ensures.done

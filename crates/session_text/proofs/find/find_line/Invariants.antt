@@ -1,7 +1,7 @@
 use Rattle.std.proofs.Common.{◌+◌, ◌-◌, ◌≡◌, ◌≤◌, ◌++◌, length, take}
 use Rattle.std.specs.Prelude.{Contains, IsTrue}
 use Rattle.session_text.specs.Find.{IsFound}
-use Rattle.session_text.proofs.lines.find_line.Given as goal
+use Rattle.session_text.proofs.find.find_line.Given as goal
 
 abbrev pub invariant-takes : goal.invariant-takes
 invariant-takes g l =
@@ -12,6 +12,7 @@ invariant-takes g l =
       unended : ¬ (Contains (take l.seen l.held) 10);
       holds : IsFound l.room l.fn.held → IsFound l.room l.held;
       still : IsFound l.room l.fn.held → l.source ≡ l.fn.source;
+      kept : IsFound l.room l.fn.held → l.held ≡ l.fn.held;
       text : IsTrue (input.tells l.fn.source) → l.held ++ input.left l.source ≡ l.fn.held ++ input.left l.fn.source;
       same : input.tells l.source ≡ input.tells l.fn.source;
       faults : input.faults l.source ≡ input.faults l.fn.source;

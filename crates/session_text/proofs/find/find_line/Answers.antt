@@ -4,11 +4,14 @@ use Rattle.std.proofs.lemmas.Bool.Decides.{nat_tests}
 use Rattle.std.specs.Prelude.{Contains}
 use Rattle.session_text.specs.Find.{IsFound, is_past}
 use Rattle.session_text.proofs.Searches.{searched-some, searched-none, Gains-none, Gains-front}
-use Rattle.session_text.proofs.lines.find_line.Goals as goal
+use Rattle.session_text.proofs.find.find_line.Goals as goal
 
 -- octets that begin a line that is too long are some
+past_some : (room size : ℕ) → is_past room size ≡ true → size ≡ 0 → ⊥
+past_some room size past none = grind (arith, nat_tests)
+
 some : (room : ℕ) (held : List ℕ) → is_past room (length held) ≡ true → held ≢ []
-some room held past empty = false≢true (sym (ap (λ (l : List ℕ). is_past room (length l)) empty) ∙ past)
+some room held past empty = past_some room (length held) past (ap length empty)
 
 short : (room seen : ℕ) → is_past room seen ≡ false → seen ≤ 131200
 short room seen past = grind (arith, nat_tests)
@@ -33,7 +36,7 @@ returns-then-is_past-clause-found g c =
     let past : is_past c.args.room (length c.takes.held) ≡ true = ap (λ (l : List ℕ). is_past c.args.room (length l)) (sym c.octets-seen.ensures.octets) ∙ sym c.is_past.ensures ∙ c.if-is_past.true in (
       some c.args.room c.takes.held past,
       searched-none c.octets.result.now c.takes.held c.takes.seen c.octets.ensures.octets known.within known.unended c.in_default.ensures,
-      inl past,
+      past,
     )
 
 pub returns-else-seen-eq0-clause-found : goal.returns-else-seen-eq0-clause-found
@@ -43,7 +46,8 @@ returns-else-seen-eq0-clause-found g c =
     let end = Gains-none _ _ _ _ _ _ c.in-Ok-eq0.ensures.gains c.in-Ok-eq0.field-0-test in (
       λ empty. c.if-seen-eq0.false (ap length (c.octets-seen.ensures.octets ∙ sym end.0 ∙ empty)),
       λ held. none (subst (λ (l : List ℕ). Contains l 10) end.0 held),
-      inr (λ told. end.1 (rw known.same told)),
+      ap length (c.octets-seen.ensures.octets ∙ sym end.0),
+      λ told. end.1 (rw known.same told),
     )
 
 pub takes-preserved : goal.takes-preserved
@@ -58,6 +62,7 @@ takes-preserved g c =
       unended = λ held. none (subst (λ (l : List ℕ). Contains l 10) (ap (λ n. take n c.fill.new.self) seen ∙ front.0) held);
       holds = λ found. absurd (undecided c.args.room c.takes.held none past (known.holds found));
       still = λ found. absurd (undecided c.args.room c.takes.held none past (known.holds found));
+      kept = λ found. absurd (undecided c.args.room c.takes.held none past (known.holds found));
       text = λ told. front.2 (rw known.same told) ∙ known.text told;
       same = c.fill.ensures.same ∙ known.same;
       faults = c.in-Ok.ensures.no_fault ∙ known.faults;
