@@ -8,15 +8,16 @@ use Rattle.store_directory.specs.Options.{◌>>=◌, given}
 use Rattle.store_directory.specs.Same.{same_directory}
 use Rattle.store_directory.proofs.Sames.{directories_decided}
 use Rattle.meta_journal.specs.Directories.{chosen, directory_of}
+use Rattle.meta_journal.proofs.Holding.{votes_choice}
 use Rattle.journal_reader.specs.Halves.{both_halves, directory_if, halves_in}
 
 -- what is chosen by the votes of an image is what the image holds
 pub chosen_by_votes : (blocks n : ℕ) (votes : List (Option Root)) (image : ℕ → List ℕ) (answer : Option Directory) → n ≡ blocks → AreVotes votes image
     → chosen n (choice_of_votes votes) (halves_in n image) ≡ answer → directory_of blocks image ≡ answer
-unfolding choice_of directory_of
+unfolding directory_of
 chosen_by_votes blocks n votes image answer is are reads =
     sym (ap (λ m. chosen m (choice_of image) (halves_in m image)) is)
-    ∙ sym (ap (λ c. chosen n c (halves_in n image)) (ap choice_of_votes are)) ∙ reads
+    ∙ sym (ap (λ c. chosen n c (halves_in n image)) (votes_choice votes image are)) ∙ reads
 
 -- two directories that a test compares, in the one order and in the other
 in_order : (d : Directory) (b : Bool) → (given b >>= λ _. Some d) ≡ directory_if b d

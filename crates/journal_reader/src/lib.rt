@@ -10,6 +10,8 @@ pub use opening::{Opened, read_journal};
 pub use stop::ReadStop;
 
 #[cfg(test)]
+mod half_tests;
+#[cfg(test)]
 mod script;
 #[cfg(test)]
 mod stop_tests;

@@ -1,5 +1,6 @@
 // A session of commits and switches on a device of 16 blocks, for tests.
 ghost use Rattle.std.specs.Prelude.{◌≡◌, IfOk, IfSome, IsTrue};
+ghost use Rattle.board.specs.Memory.{flash_of};
 ghost use Rattle.board.specs.Meaning.{TellsFlash};
 ghost use Rattle.meta_journal.specs.Standing.{StandsFor};
 
@@ -64,6 +65,29 @@ fn turn<B: Board>(alloc: Global, board: &mut B, opened: &mut Opened) -> Result<b
     }
 }
 
+/// Commits an entry, whether or not it fits the directory. Whether that succeeded.
+pub fn add<B: Board>(
+    alloc: Global,
+    board: &mut B,
+    opened: &mut Opened,
+    entry: &[u8],
+) -> Result<bool, Fail>
+    requires stands { TellsFlash B.means board.old
+        → StandsFor opened.old.journal (B.means.flash board.old) }
+    ensures stands { IfOk result (λ done. IsTrue done → TellsFlash B.means board.old
+        → StandsFor opened.new.journal (B.means.flash board.new)) }
+    ensures same { B.means.device board.new ≡ B.means.device board.old }
+{
+    if opened.journal.room() < 21 || entry.is_empty() || entry.len() > 5116 {
+        return Ok(false);
+    }
+    let _ = opened.directory.fold(alloc, entry);
+    match opened.journal.commit(board, entry) {
+        Ok(()) => Ok(true),
+        Err(Failed) => Ok(false),
+    }
+}
+
 /// Carries out an act. Whether it succeeded.
 pub fn perform<B: Board>(
     alloc: Global,
@@ -78,18 +102,31 @@ pub fn perform<B: Board>(
     ensures same { B.means.device board.new ≡ B.means.device board.old }
 {
     match act {
-        Act::Commit(number) => {
-            let entry = clock(number);
-            if opened.journal.room() < 21 || opened.directory.fold(alloc, &entry).is_err() {
-                return Ok(false);
-            }
-            match opened.journal.commit(board, &entry) {
-                Ok(()) => Ok(true),
-                Err(Failed) => Ok(false),
-            }
-        }
+        Act::Commit(number) => add(alloc, board, opened, &clock(number)),
         Act::Switch => turn(alloc, board, opened),
     }
+}
+
+/// Fills a half by commits of two pages, until the room is at most so many. Whether each succeeded.
+pub fn fill(
+    alloc: Global,
+    board: &mut MemBoard,
+    opened: &mut Opened,
+    room: u32,
+) -> Result<bool, Fail>
+    requires stands { StandsFor opened.old.journal (flash_of board.old) }
+    ensures stands { IfOk result (λ done. IsTrue done
+        → StandsFor opened.new.journal (flash_of board.new)) }
+{
+    for _ in 0..256 {
+        if opened.journal.room() <= room {
+            return Ok(true);
+        }
+        if !add(alloc, board, opened, &clock(9))? {
+            return Ok(false);
+        }
+    }
+    Ok(true)
 }
 
 /// Carries out the script up to the first failure. Returns the moment at which each commit was

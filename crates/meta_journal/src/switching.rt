@@ -125,9 +125,10 @@ impl Journal {
         ensures seen { OnOk result (TellsFlash B.means board.old → B.means.images
             board.new (B.means.moment board.new) (B.means.flash board.new).content) }
 
-        // At `Ok` the journal is that of the directory that the checkpoint spells.
-        ensures journal { OnOk result (TellsFlash B.means board.old
-            → is_own (B.means.device board.old).blocks self.old.root ≡ true → (d : Directory)
+        // At `Ok` the journal is that of the directory that the checkpoint spells, if the flash held
+        // one.
+        ensures journal { OnOk result (TellsFlash B.means board.old → (was d : Directory)
+            → Holds (B.means.device board.old).blocks was (B.means.flash board.old).content
             → directory_by (B.means.device board.old).blocks checkpoint.now [] ≡ Some d
             → IsJournal (B.means.device board.old).blocks self.new.root d
             (room_from self.new) (B.means.flash board.new)) }

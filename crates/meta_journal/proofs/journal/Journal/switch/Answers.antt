@@ -1,4 +1,4 @@
-use Rattle.std.proofs.Common.{◌≡◌, ◌+◌, ◌-◌, [], ◌∷◌, Some, length, sym, ap, subst, true, false, arith, ℕ}
+use Rattle.std.proofs.Common.{◌≡◌, ◌+◌, ◌-◌, [], ◌∷◌, Some, length, sym, subst, true, false, arith, ℕ}
 use Rattle.std.proofs.lemmas.Bool.{or_parts}
 use Rattle.board.specs.Device.{Device}
 use Rattle.board.specs.Touches.{Touches}
@@ -6,7 +6,9 @@ use Rattle.board.proofs.Touching as touching
 use Rattle.board.proofs.Works.{tells_too}
 use Rattle.commit_gate.specs.Entries.{payload_pages}
 use Rattle.root_vote.specs.declared.root.Root.{Root}
+use Rattle.root_vote.specs.Roots.{AreVotes}
 use Rattle.root_vote.specs.Rooted.{is_root_block}
+use Rattle.meta_journal.proofs.Holding.{own_of}
 use Rattle.meta_journal.specs.Directories.{directory_by, is_own}
 use Rattle.meta_journal.specs.Halves.{half_base, half_of, half_pages}
 use Rattle.meta_journal.specs.Journals.{IsJournal, next_of, repair_work, switch_pages}
@@ -23,16 +25,17 @@ returns-clause-stands g c told =
     (c.in_ok-to.ensures.stands (tells_too c.unite.ensures.touches.same told))
 
 pub returns-clause-journal : goal.returns-clause-journal
-returns-clause-journal g c told own d spells =
+returns-clause-journal g c told was d held spells =
     let means = g.B.Board.means in
     let text = c.args.checkpoint.now in
     let same = c.unite.ensures.touches.same in
-    let root = ap (λ (k : Kept). k.root) c.self.view_is in
+    let votes : AreVotes c.self.inside.votes.votes (means.flash c.args.board.now).content = subst (λ (k : Kept). AreVotes k.votes (means.flash c.args.board.now).content) (sym c.self.view_is) (c.requires.stands told).votes in
+    let own = own_of (means.device c.args.board.now).blocks was c.self.inside.root c.self.inside.votes.votes (means.flash c.args.board.now).content c.self.invariant.0 votes held in
     let at_is : payload_pages (length text) ≡ 512 - (512 - c.payload_pages.result) = omega (arith, c.payload_pages.ensures, c.requires.longest) in
     let journal =
     subst (λ (v : Device). IsJournal v.blocks (next_of c.self.inside.root) d (payload_pages (length text)) (means.flash c.turn.new.board)) same
     (c.in_ok-to.ensures.journal (tells_too same told)
-    (subst (λ (v : Device). is_own v.blocks c.self.inside.root ≡ true) (sym same) (subst (λ (r : Root). is_own (means.device c.args.board.now).blocks r ≡ true) (sym root) own)) d
+    (subst (λ (v : Device). is_own v.blocks c.self.inside.root ≡ true) (sym same) own) d
     (subst (λ (v : Device). directory_by v.blocks text [] ≡ Some d) (sym same) spells)) in
     subst (λ (r : Root). IsJournal (means.device c.args.board.now).blocks r d (512 - (512 - c.payload_pages.result)) (means.flash c.turn.new.board)) (sym c.in_ok-to.ensures.next)
     (subst (λ at. IsJournal (means.device c.args.board.now).blocks (next_of c.self.inside.root) d at (means.flash c.turn.new.board)) at_is journal)
