@@ -14,7 +14,7 @@ use session::{file_session, session};
 use station::{Device, Ending, device_of};
 use std::io::ErrorKind;
 use std::process::ExitCode;
-use words::{may_make, words_of};
+use words::{Call, all_words, call_of, may_make};
 
 // A session on a device in the file at this path, which is made if it is absent and the words ask for it.
 fn run_in_file(rt: &HostRuntime, path: String, words: &Vec<String>) -> Report {
@@ -28,11 +28,16 @@ fn run_in_file(rt: &HostRuntime, path: String, words: &Vec<String>) -> Report {
     }
 }
 
-fn run(rt: &HostRuntime) -> Report {
-    let words = match words_of(rt) {
-        Ok(words) => words,
-        Err(report) => return report,
-    };
+// Prints the help or the version.
+fn print_text(rt: &HostRuntime, text: &str) -> Report {
+    match print!(rt; "{text}") {
+        Ok(()) => Report::Session(Ending::Done),
+        Err(_) => Report::Session(Ending::LinkFault),
+    }
+}
+
+// A session with these words.
+fn run_words(rt: &HostRuntime, words: Vec<String>) -> Report {
     let Some(device) = device_of(&words) else {
         return Report::Device;
     };
@@ -52,6 +57,18 @@ fn run(rt: &HostRuntime) -> Report {
             &mut rt.stdout(),
         )),
         Device::File => run_in_file(rt, place, &words),
+    }
+}
+
+fn run(rt: &HostRuntime) -> Report {
+    let all = match all_words(rt) {
+        Ok(all) => all,
+        Err(report) => return report,
+    };
+    match call_of(rt.alloc(), &all) {
+        Ok(Call::Words(words)) => run_words(rt, words),
+        Ok(Call::Print(text)) => print_text(rt, text.as_str()),
+        Err(report) => report,
     }
 }
 

@@ -5,6 +5,7 @@ use crate::image::open_image;
 use crate::outcome::print_sent;
 use crate::report::Report;
 use crate::session::{file_session, session};
+use crate::words::{Call, call_of};
 use board::{Board, MemBoard};
 use image_board::FileBoard;
 use station::Ending;
@@ -96,5 +97,51 @@ fn what_is_said_of_a_file_names_it(rt: HostRuntime) -> Result<(), Fail> {
     let said = format!(in rt.alloc(); "{report}")?;
     assert_eq!(rt; said.as_str(), "pusstore: cannot use a path");
     assert!(rt; !report.is_done());
+    Ok(())
+}
+
+// What the program is called for with these words behind its name: how many words, a text of so many octets, or the
+// refusal.
+fn called(alloc: Global, row: &[&str]) -> Result<Result<(usize, usize), Report>, AllocError> {
+    let mut all = Vec::new(alloc);
+    all.push(String::from_str(alloc, "pusstore")?)?;
+    for word in row {
+        all.push(String::from_str(alloc, word)?)?;
+    }
+    Ok(match call_of(alloc, &all) {
+        Ok(Call::Words(words)) => Ok((words.len(), 0)),
+        Ok(Call::Print(text)) => Ok((0, text.len())),
+        Err(report) => Err(report),
+    })
+}
+
+#[test]
+fn words_are_values_behind_the_first_two_dashes(rt: HostRuntime) -> Result<(), Fail> {
+    let rows: [(&[&str], usize); 7] = [
+        (&[], 0),
+        (&[""], 1),
+        (&["-"], 1),
+        (&["mem", "16", "fresh"], 3),
+        (&["help", "version"], 2),
+        (&["file", "--", "-path", "list"], 3),
+        (&["--", "--", "-x"], 2),
+    ];
+    for (row, count) in rows {
+        assert!(rt; matches!(called(rt.alloc(), row)?, Ok((words, 0)) if words == count), "{row:?}");
+    }
+    let refused: [&[&str]; 5] = [
+        &["-path"],
+        &["mem", "-1"],
+        &["file", "-path", "fresh"],
+        &["--generate=3"],
+        &["mem", "16", "--fresh"],
+    ];
+    for row in refused {
+        assert!(rt; matches!(called(rt.alloc(), row)?, Err(Report::Device)), "{row:?}");
+    }
+    let printed: [&[&str]; 4] = [&["--help"], &["-h"], &["--version"], &["mem", "16", "-V"]];
+    for row in printed {
+        assert!(rt; matches!(called(rt.alloc(), row)?, Ok((0, octets)) if octets > 10), "{row:?}");
+    }
     Ok(())
 }
