@@ -1,5 +1,5 @@
 // Texts that come in pieces, a table of bad lines, and what is written.
-ghost use Rattle.std.specs.Prelude.{◌≡◌, ◌<◌, true, IsTrue};
+ghost use Rattle.std.specs.Prelude.{◌≡◌, ◌<◌, ◌^◌, true, IsTrue};
 ghost use Rattle.session_text.specs.Lending.{reader_of};
 
 use super::*;
