@@ -40,6 +40,7 @@ pub fn load_block<'a, B: Board>(
       left = count;
       page = 0;
     }) }
+    ensures whole { IfOk result (λ records. length records.block ≡ 65536) }
     ensures reads { ReadsOnly B.means 256 board.old board.new }
     ensures counted { OnOk result
         (RoseBy 256 (B.means.counts board.old).reads (B.means.counts board.new).reads) }

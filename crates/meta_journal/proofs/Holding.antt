@@ -5,7 +5,7 @@ use Rattle.board.proofs.Pages.{above_pages}
 use Rattle.root_vote.specs.declared.root.Root.{Root}
 use Rattle.root_vote.specs.declared.votes.Choice.{Choice}
 use Rattle.root_vote.specs.declared.votes.Choice.TheVariants.{Agreed, Nobody, Split}
-use Rattle.root_vote.specs.Roots.{choice_of, root_in}
+use Rattle.root_vote.specs.Roots.{AreVotes, LeadsTo, choice_of, choice_of_votes, root_in}
 use Rattle.root_vote.specs.Rooted.{IsBetween, IsOneOf, IsRepairOf, IsRepaired, Rooted, is_root_block}
 use Rattle.root_vote.proofs.Choices.{choice_last}
 use Rattle.root_vote.proofs.RootStages.{page_left}
@@ -85,3 +85,19 @@ pub repairing_holds : (blocks : ℕ) (flash : Flash) (d : Directory) (image : �
 repairing_holds blocks flash d image enough held still is = image_holds blocks d image (choice_of image) refl
     (repaired_holds blocks d (halves_of blocks flash.content) (halves_of blocks image) (choice_of flash.content) (choice_of image)
     (λ half low count. half_left blocks half flash image enough low (still half low count) is.elsewhere) is.choice (holds_image blocks d flash.content held))
+
+-- the votes of a content agree on what its root pages do
+pub votes_choice : (votes : List (Option Root)) (content : ℕ → List ℕ) → AreVotes votes content → choice_of_votes votes ≡ choice_of content
+unfolding choice_of
+votes_choice votes content are = ap choice_of_votes are
+
+-- where a directory is held, the root by which the choice is repaired is of this device
+own_by : (blocks : ℕ) (d : Directory) (root : Root) (choice : Choice) (half : ℕ → Option Directory) → LeadsTo root choice → ChoiceHolds blocks d choice half → is_own blocks root ≡ true
+own_by blocks d root (Agreed agreed) half leads holds = subst (λ (r : Root). is_own blocks r ≡ true) leads holds.0
+own_by blocks d root (Split first last) half leads holds = subst (λ (r : Root). is_own blocks r ≡ true) leads holds.0
+own_by blocks d root Nobody half leads holds = absurd leads
+
+pub own_of : (blocks : ℕ) (d : Directory) (root : Root) (votes : List (Option Root)) (content : ℕ → List ℕ) → LeadsTo root (choice_of_votes votes) → AreVotes votes content
+    → directory_of blocks content ≡ Some d → is_own blocks root ≡ true
+own_of blocks d root votes content leads are held =
+    own_by blocks d root (choice_of content) (halves_of blocks content) (subst (LeadsTo root) (votes_choice votes content are) leads) (holds_image blocks d content held)

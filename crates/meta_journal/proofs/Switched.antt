@@ -17,7 +17,7 @@ use Rattle.meta_journal.specs.Journals.{FirmJournal, Holds, next_of}
 use Rattle.meta_journal.proofs.Chosen.{ChoiceHolds}
 use Rattle.meta_journal.proofs.Filled.{filled_half, filled_others}
 use Rattle.meta_journal.proofs.Frame.{half_same, journal_same}
-use Rattle.meta_journal.proofs.Holding.{advancing_holds, halves_of, holds_image, image_holds, repaired_holds, repairing_holds}
+use Rattle.meta_journal.proofs.Holding.{advancing_holds, halves_of, holds_image, image_holds, repaired_holds, repairing_holds, votes_choice}
 
 -- the next root names the other half
 other_half : (g : ℕ) → (g + 1) % 2 ^ 64 % 2 + g % 2 ≡ 1
@@ -39,8 +39,7 @@ module _ (blocks : ℕ) (flash : Flash) (d : Directory) (enough : 16 ≤ blocks)
   -- an image of a repair behind a barrier
   module _ (votes : List (Option Root)) (are : AreVotes votes flash.content) where
     choice_is : choice_of_votes votes ≡ choice_of flash.content
-    unfolding choice_of
-    choice_is = ap choice_of_votes are
+    choice_is = votes_choice votes flash.content are
 
     pub repair_holds : (image : ℕ → List ℕ) → IsRepaired blocks (firm flash) (choice_of_votes votes) image → Holds blocks d image
     repair_holds image is = repairing_holds blocks (firm flash) d image enough held (λ half low count q lt. refl) (subst (λ c. IsRepaired blocks (firm flash) c image) choice_is is)

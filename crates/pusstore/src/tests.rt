@@ -127,7 +127,10 @@ fn words_are_values_behind_the_first_two_dashes(rt: HostRuntime) -> Result<(), F
         (&["--", "--", "-x"], 2),
     ];
     for (row, count) in rows {
-        assert!(rt; matches!(called(rt.alloc(), row)?, Ok((words, 0)) if words == count), "{row:?}");
+        assert!(rt;
+            matches!(called(rt.alloc(), row)?, Ok((words, 0)) if words == count),
+            "{row:?}"
+        );
     }
     let refused: [&[&str]; 5] = [
         &["-path"],
@@ -137,11 +140,17 @@ fn words_are_values_behind_the_first_two_dashes(rt: HostRuntime) -> Result<(), F
         &["mem", "16", "--fresh"],
     ];
     for row in refused {
-        assert!(rt; matches!(called(rt.alloc(), row)?, Err(Report::Device)), "{row:?}");
+        assert!(rt;
+            matches!(called(rt.alloc(), row)?, Err(Report::Device)),
+            "{row:?}"
+        );
     }
     let printed: [&[&str]; 4] = [&["--help"], &["-h"], &["--version"], &["mem", "16", "-V"]];
     for row in printed {
-        assert!(rt; matches!(called(rt.alloc(), row)?, Ok((0, octets)) if octets > 10), "{row:?}");
+        assert!(rt;
+            matches!(called(rt.alloc(), row)?, Ok((0, octets)) if octets > 10),
+            "{row:?}"
+        );
     }
     Ok(())
 }

@@ -167,15 +167,35 @@ fn a_packet_of_4097_octets_is_too_large(rt: HostRuntime) -> Result<(), Fail> {
 fn a_line_that_ends_past_the_limit_is_bad(rt: HostRuntime) -> Result<(), Fail> {
     // the text, its limit, and the fault of its second line where it has one
     let rows: [(&[u8], u64, Option<LineFault>); 9] = [
-        (b"G 000000000011\nG 000000000011\n", 29, Some(LineFault::TextLimit)),
+        (
+            b"G 000000000011\nG 000000000011\n",
+            29,
+            Some(LineFault::TextLimit),
+        ),
         (b"G 000000000011\nG 000000000011\n", 30, None),
         (b"G 000000000011\nG 000000000011", 29, None),
-        (b"G 000000000011\nG 000000000011", 28, Some(LineFault::TextLimit)),
-        (b"G 000000000011\nG 000000000011\r\n", 30, Some(LineFault::TextLimit)),
-        (b"G 000000000011\n# 345678901234\n", 29, Some(LineFault::TextLimit)),
+        (
+            b"G 000000000011\nG 000000000011",
+            28,
+            Some(LineFault::TextLimit),
+        ),
+        (
+            b"G 000000000011\nG 000000000011\r\n",
+            30,
+            Some(LineFault::TextLimit),
+        ),
+        (
+            b"G 000000000011\n# 345678901234\n",
+            29,
+            Some(LineFault::TextLimit),
+        ),
         (b"G 000000000011\n\n", 15, Some(LineFault::TextLimit)),
         (b"G 000000000011\n\n", 16, None),
-        (b"G 000000000011\nno form at all\n", 29, Some(LineFault::TextLimit)),
+        (
+            b"G 000000000011\nno form at all\n",
+            29,
+            Some(LineFault::TextLimit),
+        ),
     ];
     for (text, limit, why) in rows {
         for most in [1, 4096] {

@@ -13,12 +13,12 @@ use Rattle.store_directory.specs.Rows.{between, is_by}
 use Rattle.store_directory.specs.declared.row.Row.{Row}
 use Rattle.store_directory.proofs.Steps.{some_then}
 use Rattle.store_load.specs.Each.{each}
-use Rattle.store_load.specs.Extents.{end_of, extent_to, extents_from, extents_of, extents_to, joined, pages_in, read_extent}
+use Rattle.store_load.specs.Extents.{AreGiven, end_of, extent_to, extents_from, extents_of, joined, pages_in, read_extent}
 use Rattle.store_load.specs.Keeping.{IsLinkOf, Keeps}
 use Rattle.store_load.specs.Kept.{are_filled, are_short, begins_well, dead_by, kept_by, kept_of, live_of, may_keep, rise_to}
 use Rattle.store_load.specs.declared.rule.Rule.{Rule}
 use Rattle.store_load.proofs.Eachs.{each_cons, given_then, one, two}
-use Rattle.store_load.proofs.Records.{extent_length, extent_within, few_records}
+use Rattle.store_load.proofs.Records.{few_records, given_length, given_within, read_given}
 
 pub sum_between : (a b c : ℕ) → a < 4294967296 → b < 4294967296 → c < 4294967296
     → between a b + between b c < 4294967296 → between a c ≡ between a b + between b c
@@ -54,54 +54,79 @@ first_by row link (next ∷ links) h =
     two (nat_lt 0 row.count) (is_by link.first row.first)
     (one (nat_lt 0 row.count && is_by link.first row.first) (not (is_by next.first row.first)) h)
 
-module _ (blocks : ℕ) (image : ℕ → List ℕ) (content : IsContent blocks image) where
+-- what the blocks of an image spell was given
+pub reads_given : (blocks : ℕ) (image : ℕ → List ℕ) → IsContent blocks image → (end : ℕ) (link : Link) (links : List Link)
+    (reads : List (List Meaning)) → All (IsLinkOf blocks) (link ∷ links)
+    → each (read_extent image) (extents_from end link links) ≡ Some reads → AreGiven (extents_from end link links) reads
+reads_given blocks image content end link [] reads own h =
+    let (records, rest, read, none, whole) = each_cons (read_extent image) (extent_to end link) [] reads h in
+    let here = All-head (IsLinkOf blocks) link [] own in
+    subst (AreGiven (extent_to end link ∷ [])) (ap (λ (l : List (List Meaning)). records ∷ l) (same_Some [] rest none) ∙ whole)
+    (read_given blocks image content (extent_to end link) records here.block read, tt)
+reads_given blocks image content end link (next ∷ links) reads own h =
+    let (records, rest, read, are, whole) = each_cons (read_extent image) (extent_to next.first link) (extents_from end next links) reads h in
+    let here = All-head (IsLinkOf blocks) link (next ∷ links) own in
+    subst (AreGiven (extent_to next.first link ∷ extents_from end next links)) whole (
+      read_given blocks image content (extent_to next.first link) records here.block read,
+      reads_given blocks image content end next links rest (All-tail (IsLinkOf blocks) link (next ∷ links) own) are,
+    )
+
+-- no more than the pages of their blocks
+extents_few : (end : ℕ) (link : Link) (links : List Link) (reads : List (List Meaning))
+    → AreGiven (extents_from end link links) reads → length (joined reads) ≤ 256 * suc (length links)
+extents_few end link [] [] given = absurd given
+extents_few end link [] (records ∷ next ∷ reads) given = absurd given.1
+extents_few end link [] (records ∷ []) given =
+    let within = given_within (extent_to end link) records given.0 in
+    let alone : length (joined (records ∷ [])) ≡ length records + 0 = length-append records [] in
+    omega (arith, within, few_records records, alone)
+extents_few end link (next ∷ links) [] given = absurd given
+extents_few end link (next ∷ links) (records ∷ rest) given =
+    let within = given_within (extent_to next.first link) records given.0 in
+    let behind = extents_few end next links rest given.1 in
+    let sum : length (joined (records ∷ rest)) ≡ length records + length (joined rest) = length-append records (joined rest) in
+    omega (arith, within, few_records records, behind, sum)
+
+pub all_few : (row : Row) (links : List Link) (reads : List (List Meaning)) → AreGiven (extents_of row links) reads
+    → length (joined reads) ≤ 256 * length links
+all_few row [] [] given = omega arith
+all_few row [] (records ∷ reads) given = absurd given
+all_few row (link ∷ links) reads given = extents_few (end_of row) link links reads given
+
+module _ (blocks : ℕ) where
   -- the records of extents in a row
   extents_count : (end : ℕ) (link : Link) (links : List Link) (reads : List (List Meaning))
-      → All (IsLinkOf blocks) (link ∷ links) → end < 4294967296
-      → each (read_extent image) (extents_from end link links) ≡ Some reads
+      → All (IsLinkOf blocks) (link ∷ links) → end < 4294967296 → AreGiven (extents_from end link links) reads
       → length (joined reads) < 4294967296 → between link.first end ≡ length (joined reads)
-  extents_count end link [] reads own lt h few =
-      let (records, rest, read, none, whole) = each_cons (read_extent image) (extent_to end link) [] reads h in
-      let nothing : [] ≡ rest = same_Some [] rest none in
-      let long : length records ≡ between link.first end = extent_length image (extent_to end link) records read in
+  extents_count end link [] [] own lt given few = absurd given
+  extents_count end link [] (records ∷ next ∷ reads) own lt given few = absurd given.1
+  extents_count end link [] (records ∷ []) own lt given few =
+      let long : length records ≡ between link.first end = given_length (extent_to end link) records given.0 in
       let alone : length (joined (records ∷ [])) ≡ length records + 0 = length-append records [] in
       sym long ∙ omega (arith, alone)
-      ∙ ap (λ (l : List (List Meaning)). length (joined (records ∷ l))) nothing
-      ∙ ap (λ (l : List (List Meaning)). length (joined l)) whole
-  extents_count end link (next ∷ links) reads own lt h few =
-      let (records, rest, read, are, whole) = each_cons (read_extent image) (extent_to next.first link) (extents_from end next links) reads h in
-      let long : length records ≡ between link.first next.first = extent_length image (extent_to next.first link) records read in
+  extents_count end link (next ∷ links) [] own lt given few = absurd given
+  extents_count end link (next ∷ links) (records ∷ rest) own lt given few =
+      let long : length records ≡ between link.first next.first = given_length (extent_to next.first link) records given.0 in
       let sum : length (joined (records ∷ rest)) ≡ length records + length (joined rest) = length-append records (joined rest) in
-      let total : length (joined (records ∷ rest)) ≡ length (joined reads) = ap (λ (l : List (List Meaning)). length (joined l)) whole in
       let here = All-head (IsLinkOf blocks) link (next ∷ links) own in
       let behind_it = All-tail (IsLinkOf blocks) link (next ∷ links) own in
       let there = All-head (IsLinkOf blocks) next links behind_it in
-      let behind = extents_count end next links rest behind_it lt are (omega (arith, sum, total, few)) in
-      sum_between link.first next.first end here.first there.first lt (omega (arith, long, behind, sum, total, few))
-      ∙ omega (arith, long, behind, sum, total)
+      let behind = extents_count end next links rest behind_it lt given.1 (omega (arith, sum, few)) in
+      sum_between link.first next.first end here.first there.first lt (omega (arith, long, behind, sum, few))
+      ∙ omega (arith, long, behind, sum)
 
-  extents_few : (end : ℕ) (link : Link) (links : List Link) (reads : List (List Meaning))
-      → All (IsLinkOf blocks) (link ∷ links)
-      → each (read_extent image) (extents_from end link links) ≡ Some reads
-      → length (joined reads) ≤ 256 * suc (length links)
-  extents_few end link [] reads own h =
-      let (records, rest, read, none, whole) = each_cons (read_extent image) (extent_to end link) [] reads h in
-      let nothing : [] ≡ rest = same_Some [] rest none in
-      let here = All-head (IsLinkOf blocks) link [] own in
-      let within = extent_within blocks image content (extent_to end link) records here.block read in
-      let alone : length (joined (records ∷ [])) ≡ length records + 0 = length-append records [] in
-      let same : length (joined (records ∷ [])) ≡ length (joined reads) =
-      ap (λ (l : List (List Meaning)). length (joined (records ∷ l))) nothing
-      ∙ ap (λ (l : List (List Meaning)). length (joined l)) whole in
-      omega (arith, within, few_records records, alone, same)
-  extents_few end link (next ∷ links) reads own h =
-      let (records, rest, read, are, whole) = each_cons (read_extent image) (extent_to next.first link) (extents_from end next links) reads h in
-      let here = All-head (IsLinkOf blocks) link (next ∷ links) own in
-      let within = extent_within blocks image content (extent_to next.first link) records here.block read in
-      let behind = extents_few end next links rest (All-tail (IsLinkOf blocks) link (next ∷ links) own) are in
-      let sum : length (joined (records ∷ rest)) ≡ length records + length (joined rest) = length-append records (joined rest) in
-      let total : length (joined (records ∷ rest)) ≡ length (joined reads) = ap (λ (l : List (List Meaning)). length (joined l)) whole in
-      omega (arith, within, few_records records, behind, sum, total)
+  -- all that the extents of a store's links have
+  pub all_counted : (row : Row) (links : List Link) (reads : List (List Meaning)) → begins_well row links ≡ true
+      → All (IsLinkOf blocks) links → length links ≤ 512 → row.first < 4294967296 → row.count ≤ 100000
+      → AreGiven (extents_of row links) reads → length (joined reads) ≡ dead_by row.first links + row.count
+  all_counted row [] [] begins own few low most given = let none = eqb-true row.count 0 begins in omega (arith, none)
+  all_counted row [] (records ∷ reads) begins own few low most given = absurd given
+  all_counted row (link ∷ links) reads begins own few low most given =
+      let some = extents_few (end_of row) link links reads given in
+      let total = extents_count (end_of row) link links reads own (omega arith) given (omega (arith, some, few)) in
+      let here = All-head (IsLinkOf blocks) link links own in
+      let ends = ends_at link.first row.first row.count here.first low most (by_low link.first row.first (first_by row link links begins)) in
+      sym total ∙ ends
 
 -- what is known of the records that a store keeps
 pub record KeptAre (rule : Rule) (image : ℕ → List ℕ) (now : ℕ) (row : Row) (links : List Link)
@@ -157,30 +182,17 @@ module _ (rule : Rule) (blocks : ℕ) (image : ℕ → List ℕ) (now : ℕ) (ro
   abbrev are : KeptAre rule image now row links records
   are = kept_parts rule image now row links records keeps.kept
 
+  given_all : AreGiven (extents_of row links) are.reads
+  given_all = by_links links are.reads keeps.each_link are.read
+    where
+      by_links : (others : List Link) (reads : List (List Meaning)) → All (IsLinkOf blocks) others
+          → each (read_extent image) (extents_of row others) ≡ Some reads → AreGiven (extents_of row others) reads
+      by_links [] reads own read = subst (AreGiven []) (same_Some [] reads read) tt
+      by_links (link ∷ rest) reads own read = reads_given blocks image keeps.pages (end_of row) link rest reads own read
+
   -- all that its extents spell
   pub counted : length (joined are.reads) ≡ dead_by row.first links + row.count
-  counted = by_links links refl
-    where
-      by_links : (others : List Link) → links ≡ others
-          → length (joined are.reads) ≡ dead_by row.first links + row.count
-      by_links [] same =
-          let none : [] ≡ are.reads = same_Some [] are.reads
-          (sym (ap (λ (l : List Link). each (read_extent image) (extents_to (end_of row) l)) same) ∙ are.read) in
-          let zero_count : row.count ≡ 0 = eqb-true row.count 0 (sym (ap (begins_well row) same) ∙ are.begins) in
-          let no_dead : dead_by row.first links ≡ 0 = ap (dead_by row.first) same in
-          sym (ap (λ (l : List (List Meaning)). length (joined l)) none) ∙ omega (arith, zero_count, no_dead)
-      by_links (link ∷ rest) same =
-          let read : each (read_extent image) (extents_from (end_of row) link rest) ≡ Some are.reads =
-          sym (ap (λ (l : List Link). each (read_extent image) (extents_to (end_of row) l)) same) ∙ are.read in
-          let own = subst (All (IsLinkOf blocks)) same keeps.each_link in
-          let here = All-head (IsLinkOf blocks) link rest own in
-          let few = extents_few blocks image keeps.pages (end_of row) link rest are.reads own read in
-          let many : length links ≡ suc (length rest) = ap length same in
-          let total = extents_count blocks image keeps.pages (end_of row) link rest are.reads own (omega arith) read (omega (arith, few, many, keeps.few)) in
-          let begins = first_by row link rest (sym (ap (begins_well row) same) ∙ are.begins) in
-          let ends = ends_at link.first row.first row.count here.first keeps.first keeps.count (by_low link.first row.first begins) in
-          let is_dead : dead_by row.first links ≡ between link.first row.first = ap (dead_by row.first) same in
-          sym total ∙ ends ∙ omega (arith, is_dead)
+  counted = all_counted blocks row links are.reads are.begins keeps.each_link keeps.few keeps.first keeps.count given_all
 
   -- a row counts the records
   pub counts_records : length records ≡ row.count
@@ -191,14 +203,6 @@ module _ (rule : Rule) (blocks : ℕ) (image : ℕ → List ℕ) (now : ℕ) (ro
 
   -- as far as its records go no number comes round
   pub small_enough : (gone far : ℕ) → gone ≤ row.count → far ≡ dead_by row.first links + gone → far < 2147483648
-  small_enough gone far few is = by_links links refl
-    where
-      by_links : (others : List Link) → links ≡ others → far < 2147483648
-      by_links [] same = let no_dead : dead_by row.first links ≡ 0 = ap (dead_by row.first) same in omega (arith, no_dead, few, keeps.count, is)
-      by_links (link ∷ rest) same =
-          let read : each (read_extent image) (extents_from (end_of row) link rest) ≡ Some are.reads =
-          sym (ap (λ (l : List Link). each (read_extent image) (extents_to (end_of row) l)) same) ∙ are.read in
-          let own = subst (All (IsLinkOf blocks)) same keeps.each_link in
-          let few_all = extents_few blocks image keeps.pages (end_of row) link rest are.reads own read in
-          let many : length links ≡ suc (length rest) = ap length same in
-          omega (arith, few_all, many, counted, keeps.few, few, is)
+  small_enough gone far few is =
+      let most = all_few row links are.reads given_all in
+      omega (arith, most, counted, keeps.few, few, is)

@@ -14,24 +14,25 @@ use Rattle.time_index.specs.TimeIndex.{TimeIndex, pages_of}
 use Rattle.time_index.specs.declared.entry.Entry.{Entry}
 use Rattle.store_load.specs.Each.{each}
 use Rattle.store_load.specs.Extents.{Extent, extents_of, joined, pages_in, read_extent}
+use Rattle.store_load.specs.Held.{AreTaken}
 use Rattle.store_load.specs.Kept.{are_filled, are_short, begins_well, dead_by, kept_by, kept_of, live_of, may_keep, rise_to}
 use Rattle.store_load.specs.Loaded.{index_by, index_of, index_with, limits_of, placed, placed_all, seen, shown, start_of}
 use Rattle.store_load.specs.Loading.{Progress, load_extents}
 use Rattle.store_load.specs.declared.rule.Rule.{Rule}
 use Rattle.store_load.proofs.Counting.{kept_parts}
-use Rattle.store_load.proofs.Eachs.{both, each_cons, given_then}
-use Rattle.store_load.proofs.Takings.{pages_match, placed_lengths, room_all, takes_all}
+use Rattle.store_load.proofs.Eachs.{both, each_cons, each_length, given_then}
+use Rattle.store_load.proofs.Room.{room_all}
+use Rattle.store_load.proofs.Takings.{loads_taken, pages_match, placed_lengths, takes_all}
 
-all_lengths : (image : ℕ → List ℕ) (extents : List Extent) (reads : List (List Meaning)) → each (read_extent image) extents ≡ Some reads
+pub all_lengths : (extents : List Extent) (reads : List (List Meaning)) → length reads ≡ length extents
     → map (λ (e : Entry). e.length) (placed_all extents reads) ≡ map (λ (m : Meaning). length m.packet) (joined reads)
-all_lengths image [] reads are = ap (λ (l : List (List Meaning)). map (λ (m : Meaning). length m.packet) (joined l)) (same_Some [] reads are)
-all_lengths image (extent ∷ extents) reads are =
-    let (records, behind, read, rest, whole) = each_cons (read_extent image) extent extents reads are in
-    ap (λ (l : List (List Meaning)). map (λ (e : Entry). e.length) (placed_all (extent ∷ extents) l)) (sym whole)
-    ∙ map-append (λ (e : Entry). e.length) (placed extent.block 0 records) (placed_all extents behind)
-    ∙ (λ i. placed_lengths extent.block 0 records i ++ all_lengths image extents behind rest i)
-    ∙ sym (map-append (λ (m : Meaning). length m.packet) records (joined behind))
-    ∙ ap (λ (l : List (List Meaning)). map (λ (m : Meaning). length m.packet) (joined l)) whole
+all_lengths [] [] many = refl
+all_lengths [] (records ∷ reads) many = absurd (omega (arith, many))
+all_lengths (extent ∷ extents) [] many = absurd (omega (arith, many))
+all_lengths (extent ∷ extents) (records ∷ reads) many =
+    map-append (λ (e : Entry). e.length) (placed extent.block 0 records) (placed_all extents reads)
+    ∙ (λ i. placed_lengths extent.block 0 records i ++ all_lengths extents reads (omega (arith, many)) i)
+    ∙ sym (map-append (λ (m : Meaning). length m.packet) records (joined reads))
 
 placed_seen : (block page : ℕ) (records : List Meaning) → map seen (placed block page records) ≡ map shown records
 placed_seen block page [] = refl
@@ -106,25 +107,32 @@ module _ (rule : Rule) (image : ℕ → List ℕ) (now : ℕ) (row : Row) (links
   unfolding index_of
   not_begun h = rw h refl
 
+  -- what was taken is the index
+  pub taken_index : (reads : List (List Meaning)) (new : Progress) → length reads ≡ length (extents_of row links)
+      → AreTaken (limits_of rule now row) rule.least (extents_of row links) reads (start_of row links) new
+      → index_by rule now row links reads ≡ Some new.index
+  taken_index reads new many are =
+      let (filled, takes) = takes_all (limits_of rule now row) rule.least (extents_of row links) reads (start_of row links) new are in
+      let live = live_of row links reads in
+      let cost : pages_of new.index.entries ≡ pages_in live =
+      ap (λ (x : TimeIndex). pages_of x.entries) takes.index_is
+      ∙ pages_match (dead_by row.first links) (placed_all (extents_of row links) reads) (joined reads) (all_lengths (extents_of row links) reads many) in
+      let room = takes.fits (omega arith) in
+      let allowed : may_keep rule now row.size reads live ≡ true =
+      both (are_filled rule.least reads && are_short rule.largest (joined reads) && rise_to now 0 live) (nat_le (pages_in live) row.size)
+      (both (are_filled rule.least reads && are_short rule.largest (joined reads)) (rise_to now 0 live)
+      (both (are_filled rule.least reads) (are_short rule.largest (joined reads)) filled takes.short) takes.rise)
+      (le-leb (pages_in live) row.size (omega (arith, cost, room))) in
+      rw allowed (ap Some (sym takes.index_is))
+
   -- what was loaded is the index
   pub loaded_index : (new : Progress) → begins_well row links ≡ true
       → load_extents (limits_of rule now row) rule.least image (extents_of row links) (start_of row links) ≡ Some new
       → index_of rule image now row links ≡ Some new.index
   unfolding index_of
   loaded_index new begun is =
-      let all = takes_all (limits_of rule now row) rule.least image (extents_of row links) (start_of row links) new is in
-      let entries = drop (dead_by row.first links) (placed_all (extents_of row links) all.reads) in
-      let live = live_of row links all.reads in
-      let cost : pages_of new.index.entries ≡ pages_in live =
-      ap (λ (x : TimeIndex). pages_of x.entries) all.takes.index_is
-      ∙ pages_match (dead_by row.first links) (placed_all (extents_of row links) all.reads) (joined all.reads) (all_lengths image (extents_of row links) all.reads all.read) in
-      let room = all.takes.fits (omega arith) in
-      let allowed : may_keep rule now row.size all.reads live ≡ true =
-      both (are_filled rule.least all.reads && are_short rule.largest (joined all.reads) && rise_to now 0 live) (nat_le (pages_in live) row.size)
-      (both (are_filled rule.least all.reads && are_short rule.largest (joined all.reads)) (rise_to now 0 live)
-      (both (are_filled rule.least all.reads) (are_short rule.largest (joined all.reads)) all.filled all.takes.short) all.takes.rise)
-      (le-leb (pages_in live) row.size (omega (arith, cost, room))) in
-      rw begun (rw (all.read) (rw allowed (ap Some (sym all.takes.index_is))))
+      let (reads, read, are) = loads_taken (limits_of rule now row) rule.least image (extents_of row links) (start_of row links) new is in
+      rw begun (rw read (taken_index reads new (each_length (read_extent image) (extents_of row links) reads read) are))
 
   -- where nothing was loaded there is none
   pub unloaded_index : begins_well row links ≡ true

@@ -1,7 +1,7 @@
 -- What stores keep on small images, and whether they may share a device, as equations that the check
 -- computes.
 use Rattle.std.proofs.Common.{◌≡◌, ℕ, ◌==◌, true, false, List, [], ◌∷◌, refl}
-use Rattle.std.specs.Prelude.{Some, None, if◌then◌else◌}
+use Rattle.std.specs.Prelude.{Some, None, take, drop, replicate, if◌then◌else◌}
 use Rattle.board.specs.Flash.{blank}
 use Rattle.commit_gate.specs.Entries.{octets_from}
 use Rattle.record_view.specs.Records.{Meaning, record_at, records_from}
@@ -75,6 +75,24 @@ too_few = refl
 too_many : kept_of (rule_of 240 4096) (image_of []) 5 (row_of 0 65) (link 7 0 ∷ []) ≡ None
 unfolding kept_of read_extent all_records records_from record_at octets_from blank
 too_many = refl
+
+-- A packet of 241 octets, whose record has two pages, in a store of two pages, and of one.
+abbrev pub wide_packet : List ℕ
+wide_packet = 0 ∷ 100 ∷ 192 ∷ 0 ∷ 0 ∷ 234 ∷ replicate 235 7
+
+abbrev pub wide_pages : List (ℕ × List ℕ)
+wide_pages = (1792, take 256 (record_pages 0 4 wide_packet)) ∷ (1793, drop 256 (record_pages 0 4 wide_packet)) ∷ []
+
+abbrev pub sized : (pages : ℕ) → Row
+sized pages = record (row_of 0 1) { size = pages }
+
+just_full : kept_of (rule_of 240 4096) (image_of wide_pages) 5 (sized 2) (link 7 0 ∷ []) ≡ Some (record { number = 0; stamp = 4; packet = wide_packet } ∷ [])
+unfolding kept_of read_extent all_records records_from record_at octets_from blank
+just_full = refl
+
+too_full : kept_of (rule_of 240 4096) (image_of wide_pages) 5 (sized 1) (link 7 0 ∷ []) ≡ None
+unfolding kept_of read_extent all_records records_from record_at octets_from blank
+too_full = refl
 
 -- The first block begins behind the first record.
 begins_late : kept_of (rule_of 240 4096) (image_of ((1792, page_of 1 4) ∷ [])) 5 (row_of 0 1) (link 7 1 ∷ []) ≡ None

@@ -13,7 +13,12 @@ pub mod Blocks
 pub mod Going
 pub mod KeptRows
 pub mod Filling
+pub mod TakenOn
 pub mod LinkLoading
 pub mod LinkWalks
 pub mod Takings
+pub mod Room
 pub mod Indexed
+pub mod InRange
+pub mod Full
+pub mod Held

@@ -12,7 +12,7 @@ use Rattle.store_load.proofs.Records.{all_read, read_all}
 
 module _ (limits : Limits) (told : Type 0) (image : ℕ → List ℕ) (extent : Extent) (reading : Reading)
     (old : Progress)
-    (block : told → reading.block ≡ block_octets image extent.block)
+    (block : told → reading.block ≡ block_octets image extent.block) (long : length reading.block ≡ 65536)
     (asked : reading ≡ record { block = reading.block; number = extent.first; left = extent.count; page = 0 }) where
   -- what was asked for of the block
   left_is : records_left reading ≡ records_from extent.count reading.block extent.first 0
@@ -30,11 +30,16 @@ module _ (limits : Limits) (told : Type 0) (image : ℕ → List ℕ) (extent : 
   loaded_of new (Err stop) kept = tt
   loaded_of new (Ok used) (taken, many, used_is, within) = record {
     records = records_left reading;
+    given = record {
+      block = reading.block;
+      whole = long;
+      spelled = read_all reading.block extent.count extent.first 0 (records_left reading)
+          (record { are = sym left_is; many = many ∙ count_is });
+    };
     read = λ tells.
         subst (λ (b : List ℕ). all_records b extent.count extent.first 0 ≡ Some (records_left reading)) (block tells)
         (read_all reading.block extent.count extent.first 0 (records_left reading)
         (record { are = sym left_is; many = many ∙ count_is }));
-    count = many ∙ count_is;
     used_is = used_is;
     within = within;
     taken = taken;

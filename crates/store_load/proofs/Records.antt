@@ -11,7 +11,7 @@ use Rattle.record_view.proofs.Spelling.{spells_read}
 use Rattle.chain_log.specs.Pages.{block_octets}
 use Rattle.chain_log.proofs.Octets.{octets_length}
 use Rattle.chain_log.proofs.Spelled.{stays}
-use Rattle.store_load.specs.Extents.{Extent, all_records, pages_in, read_extent}
+use Rattle.store_load.specs.Extents.{Extent, IsGiven, all_records, pages_in, read_extent}
 use Rattle.store_load.proofs.Eachs.{given_then}
 
 -- the records are those that the block spells, as many as were asked for
@@ -147,16 +147,35 @@ module _ (blocks : ℕ) (image other : ℕ → List ℕ) (content : IsContent bl
       (in_pages (256 * extent.block) (pages_in records) (256 * extent.block + i) (omega arith)
       (omega (arith, high))))
 
-pub extent_within : (blocks : ℕ) (image : ℕ → List ℕ) → IsContent blocks image → (extent : Extent)
-    (records : List Meaning) → extent.block < blocks → read_extent image extent ≡ Some records
-    → pages_in records ≤ 256
-unfolding read_extent
-extent_within blocks image content extent records within is =
-    let fits = records_within (block_octets image extent.block) extent.count extent.first 0 records
-    (octets_length blocks image 256 (256 * extent.block) content (omega (arith, within))) is (omega arith) in omega (arith, fits)
-
 pub extent_length : (image : ℕ → List ℕ) (extent : Extent) (records : List Meaning)
     → read_extent image extent ≡ Some records → length records ≡ extent.count
 unfolding read_extent
 extent_length image extent records is =
     records_length (block_octets image extent.block) extent.count extent.first 0 records is
+
+-- what blocks gave of an extent
+
+pub given_length : (extent : Extent) (records : List Meaning) → IsGiven extent records → length records ≡ extent.count
+given_length extent records gives =
+    records_length gives.block extent.count extent.first 0 records gives.spelled
+
+pub given_within : (extent : Extent) (records : List Meaning) → IsGiven extent records → pages_in records ≤ 256
+given_within extent records gives =
+    let fits = records_within gives.block extent.count extent.first 0 records gives.whole gives.spelled (omega arith) in
+    omega (arith, fits)
+
+pub read_given : (blocks : ℕ) (image : ℕ → List ℕ) → IsContent blocks image → (extent : Extent)
+    (records : List Meaning) → extent.block < blocks → read_extent image extent ≡ Some records
+    → IsGiven extent records
+unfolding read_extent
+read_given blocks image content extent records within is = record {
+  block = block_octets image extent.block;
+  whole = octets_length blocks image 256 (256 * extent.block) content (omega (arith, within));
+  spelled = is;
+}
+
+pub extent_within : (blocks : ℕ) (image : ℕ → List ℕ) → IsContent blocks image → (extent : Extent)
+    (records : List Meaning) → extent.block < blocks → read_extent image extent ≡ Some records
+    → pages_in records ≤ 256
+extent_within blocks image content extent records within is =
+    given_within extent records (read_given blocks image content extent records within is)

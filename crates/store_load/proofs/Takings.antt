@@ -1,7 +1,7 @@
 -- What an index takes of records, and when it takes all of them.
 use Rattle.std.proofs.Common.{◌≡◌, ℕ, zero, suc, ◌+◌, ◌-◌, ◌≤◌, ◌&&◌, ◌||◌, nat_le, Bool, true, false, List, [], ◌∷◌, ◌++◌, length, drop, map, Some, None, refl, sym, ◌∙◌, ap, subst, arith, append_assoc, append-nil, length-append}
 use Rattle.std.specs.Prelude.{⊤, if◌then◌else◌}
-use Rattle.std.proofs.lemmas.Bool.{and_parts, le-leb, leb-true}
+use Rattle.std.proofs.lemmas.Bool.{and_parts, leb-true}
 use Rattle.std.proofs.lemmas.List.{drop-map}
 use Rattle.std.proofs.lemmas.List.Folds.{list_all-append}
 use Rattle.std.proofs.lemmas.List.Sums.{sum_by-append, sum_by-cons}
@@ -14,14 +14,15 @@ use Rattle.time_index.specs.TimeIndex.{TimeIndex, pages_of}
 use Rattle.time_index.specs.declared.entry.Entry.{Entry}
 use Rattle.store_load.specs.Each.{each}
 use Rattle.store_load.specs.Extents.{Extent, joined, pages_in, read_extent}
+use Rattle.store_load.specs.Held.{AreTaken}
 use Rattle.store_load.specs.Kept.{are_filled, are_short, rise_to}
 use Rattle.store_load.specs.Loaded.{placed, placed_all}
 use Rattle.store_load.specs.Loading.{Progress, entry_at, is_last, load_extents, may_follow, take_one, take_records, take_short, with_live}
 use Rattle.store_load.specs.declared.loading.Limits.{Limits}
-use Rattle.store_load.proofs.Eachs.{both, each_cons, each_more, given_then, one, two}
+use Rattle.store_load.proofs.Eachs.{both, each_more, given_then, two}
 
 -- what leaves the front of two lists
-drop_both : (n : ℕ) (xs ys : List Meaning) → drop n (xs ++ ys) ≡ drop n xs ++ drop (n - length xs) ys
+pub drop_both : {X : Type 0} (n : ℕ) (xs ys : List X) → drop n (xs ++ ys) ≡ drop n xs ++ drop (n - length xs) ys
 drop_both zero xs ys =
     let none : 0 ≡ 0 - length xs = omega arith in ap (λ (k : ℕ). xs ++ drop k ys) none
 drop_both (suc n) [] ys =
@@ -30,41 +31,32 @@ drop_both (suc n) (x ∷ xs) ys =
     let less : n - length xs ≡ suc n - length (x ∷ xs) = omega arith in
     drop_both n xs ys ∙ ap (λ (k : ℕ). drop n xs ++ drop k ys) less
 
-drop_entries : (n : ℕ) (xs ys : List Entry) → drop n (xs ++ ys) ≡ drop n xs ++ drop (n - length xs) ys
-drop_entries zero xs ys =
-    let none : 0 ≡ 0 - length xs = omega arith in ap (λ (k : ℕ). xs ++ drop k ys) none
-drop_entries (suc n) [] ys =
-    let all : suc n ≡ suc n - 0 = omega arith in ap (λ (k : ℕ). drop k ys) all
-drop_entries (suc n) (x ∷ xs) ys =
-    let less : n - length xs ≡ suc n - length (x ∷ xs) = omega arith in
-    drop_entries n xs ys ∙ ap (λ (k : ℕ). drop n xs ++ drop k ys) less
-
 -- the stamp of the last record, or the one before the first
 abbrev pub last_stamp : ℕ → List Meaning → ℕ
 last_stamp from [] = from
 last_stamp from (meaning ∷ records) = last_stamp meaning.stamp records
 
-last_both : (from : ℕ) (xs ys : List Meaning) → last_stamp from (xs ++ ys) ≡ last_stamp (last_stamp from xs) ys
+pub last_both : (from : ℕ) (xs ys : List Meaning) → last_stamp from (xs ++ ys) ≡ last_stamp (last_stamp from xs) ys
 last_both from [] ys = refl
 last_both from (x ∷ xs) ys = last_both x.stamp xs ys
 
-rise_both : (now from : ℕ) (xs ys : List Meaning) → rise_to now from xs ≡ true → rise_to now (last_stamp from xs) ys ≡ true → rise_to now from (xs ++ ys) ≡ true
+pub rise_both : (now from : ℕ) (xs ys : List Meaning) → rise_to now from xs ≡ true → rise_to now (last_stamp from xs) ys ≡ true → rise_to now from (xs ++ ys) ≡ true
 rise_both now from [] ys h k = k
 rise_both now from (x ∷ xs) ys h k =
     let parts = and_parts (nat_le from x.stamp && nat_le x.stamp now) (rise_to now x.stamp xs) h in
     both (nat_le from x.stamp && nat_le x.stamp now) (rise_to now x.stamp (xs ++ ys)) parts.0 (rise_both now x.stamp xs ys parts.1 k)
 
-rise_front : (now from : ℕ) (xs ys : List Meaning) → rise_to now from (xs ++ ys) ≡ true → rise_to now from xs ≡ true
+pub rise_front : (now from : ℕ) (xs ys : List Meaning) → rise_to now from (xs ++ ys) ≡ true → rise_to now from xs ≡ true
 rise_front now from [] ys h = refl
 rise_front now from (x ∷ xs) ys h =
     let parts = and_parts (nat_le from x.stamp && nat_le x.stamp now) (rise_to now x.stamp (xs ++ ys)) h in
     both (nat_le from x.stamp && nat_le x.stamp now) (rise_to now x.stamp xs) parts.0 (rise_front now x.stamp xs ys parts.1)
 
-rise_back : (now from : ℕ) (xs ys : List Meaning) → rise_to now from (xs ++ ys) ≡ true → rise_to now (last_stamp from xs) ys ≡ true
+pub rise_back : (now from : ℕ) (xs ys : List Meaning) → rise_to now from (xs ++ ys) ≡ true → rise_to now (last_stamp from xs) ys ≡ true
 rise_back now from [] ys h = h
 rise_back now from (x ∷ xs) ys h = rise_back now x.stamp xs ys (two (nat_le from x.stamp && nat_le x.stamp now) (rise_to now x.stamp (xs ++ ys)) h)
 
-pages_both : (xs ys : List Meaning) → pages_in (xs ++ ys) ≡ pages_in xs + pages_in ys
+pub pages_both : (xs ys : List Meaning) → pages_in (xs ++ ys) ≡ pages_in xs + pages_in ys
 pages_both [] ys = omega arith
 pages_both (x ∷ xs) ys = let rest = pages_both xs ys in omega (arith, rest)
 
@@ -93,7 +85,7 @@ pages_match n entries records same =
     ∙ ap pages_by (sym (drop-map (λ (e : Entry). e.length) n entries) ∙ ap (drop n) same ∙ drop-map (λ (m : Meaning). length m.packet) n records)
     ∙ sym (pages_of_records (drop n records))
 
-pages_more : (xs ys : List Entry) → pages_of (xs ++ ys) ≡ pages_of xs + pages_of ys
+pub pages_more : (xs ys : List Entry) → pages_of (xs ++ ys) ≡ pages_of xs + pages_of ys
 pages_more xs ys = sum_by-append (λ (e : Entry). charge_of e.length) xs ys
 
 -- what an index took of records, as these entries
@@ -126,13 +118,13 @@ takes_none limits old = record {
 }
 
 -- one after another
-takes_then : (limits : Limits) (old middle new : Progress) (xs ys : List Meaning) (es fs : List Entry)
+pub takes_then : (limits : Limits) (old middle new : Progress) (xs ys : List Meaning) (es fs : List Entry)
     → Takes limits old xs es middle → Takes limits middle ys fs new → Takes limits old (xs ++ ys) (es ++ fs) new
 takes_then limits old middle new xs ys es fs a b =
     let live : drop old.dead (xs ++ ys) ≡ drop old.dead xs ++ drop middle.dead ys =
     drop_both old.dead xs ys ∙ ap (λ (k : ℕ). drop old.dead xs ++ drop k ys) (sym a.dead) in
     let listed : drop old.dead (es ++ fs) ≡ drop old.dead es ++ drop middle.dead fs =
-    drop_entries old.dead es fs ∙ ap (λ (k : ℕ). drop old.dead es ++ drop k fs) (ap (λ (n : ℕ). old.dead - n) a.many ∙ sym a.dead) in
+    drop_both old.dead es fs ∙ ap (λ (k : ℕ). drop old.dead es ++ drop k fs) (ap (λ (n : ℕ). old.dead - n) a.many ∙ sym a.dead) in
     let index_mid : middle.index.entries ≡ old.index.entries ++ drop old.dead es = ap (λ (x : TimeIndex). x.entries) a.index_is in
     record {
       short =
@@ -158,7 +150,7 @@ takes_then limits old middle new xs ys es fs a b =
     }
 
 -- one record
-takes_one : (limits : Limits) (block page : ℕ) (meaning : Meaning) (old new : Progress) → take_one limits block page meaning old ≡ Some new
+pub takes_one : (limits : Limits) (block page : ℕ) (meaning : Meaning) (old new : Progress) → take_one limits block page meaning old ≡ Some new
     → Takes limits old (meaning ∷ []) (entry_at block page meaning ∷ []) new
 takes_one limits block page meaning old new is = by_length (nat_le (length meaning.packet) limits.largest) refl is
   where
@@ -223,142 +215,43 @@ takes_records limits block page (meaning ∷ records) old new is =
     (takes_records limits block (page + charge_of (length meaning.packet)) records middle new rest)
 
 -- the records of extents
-pub record TakesAll (limits : Limits) (least : ℕ) (image : ℕ → List ℕ) (extents : List Extent) (old new : Progress) : Type 0 where
-  pub reads : List (List Meaning)
-  pub read : each (read_extent image) extents ≡ Some reads
-  pub filled : are_filled least reads ≡ true
-  pub takes : Takes limits old (joined reads) (placed_all extents reads) new
-
-filled_cons : (least : ℕ) (image : ℕ → List ℕ) (records : List Meaning) (extents : List Extent) (reads : List (List Meaning)) → each (read_extent image) extents ≡ Some reads
-    → (is_last extents || nat_le least (pages_in records)) ≡ true → are_filled least reads ≡ true → are_filled least (records ∷ reads) ≡ true
-filled_cons least image records extents [] are h filled = refl
-filled_cons least image records [] (next ∷ reads) are h filled = absurd (nothing (same_Some [] (next ∷ reads) are))
+pub takes_all : (limits : Limits) (least : ℕ) (extents : List Extent) (reads : List (List Meaning)) (old new : Progress)
+    → AreTaken limits least extents reads old new
+    → (are_filled least reads ≡ true) × Takes limits old (joined reads) (placed_all extents reads) new
+takes_all limits least [] [] old new are = (refl, subst (Takes limits old [] []) are (takes_none limits old))
+takes_all limits least [] (records ∷ reads) old new are = absurd are
+takes_all limits least (extent ∷ extents) [] old new are = absurd are
+takes_all limits least (extent ∷ extents) (records ∷ reads) old new (middle, took, filled, rest) =
+    let behind = takes_all limits least extents reads middle new rest in (
+      filled_cons limits least records extents reads middle new rest filled behind.0,
+      takes_then limits old middle new records (joined reads) (placed extent.block 0 records) (placed_all extents reads)
+          (takes_records limits extent.block 0 records old middle took) behind.1,
+    )
   where
-    nothing : [] ≡ next ∷ reads → ⊥
-    nothing e = absurd (omega (arith, ap length e))
-filled_cons least image records (extent ∷ extents) (next ∷ reads) are h filled = both (nat_le least (pages_in records)) (are_filled least (next ∷ reads)) h filled
+    filled_cons : (limits : Limits) (least : ℕ) (records : List Meaning) (extents : List Extent) (reads : List (List Meaning)) (old new : Progress)
+        → AreTaken limits least extents reads old new → (is_last extents || nat_le least (pages_in records)) ≡ true
+        → are_filled least reads ≡ true → are_filled least (records ∷ reads) ≡ true
+    filled_cons limits least records [] [] old new are h filled = refl
+    filled_cons limits least records [] (next ∷ reads) old new are h filled = absurd are
+    filled_cons limits least records (extent ∷ extents) [] old new are h filled = absurd are
+    filled_cons limits least records (extent ∷ extents) (next ∷ reads) old new are h filled = both (nat_le least (pages_in records)) (are_filled least (next ∷ reads)) h filled
 
-pub takes_all : (limits : Limits) (least : ℕ) (image : ℕ → List ℕ) (extents : List Extent) (old new : Progress) → load_extents limits least image extents old ≡ Some new
-    → TakesAll limits least image extents old new
+-- what was loaded of an image was taken of what its blocks spell
+pub loads_taken : (limits : Limits) (least : ℕ) (image : ℕ → List ℕ) (extents : List Extent) (old new : Progress)
+    → load_extents limits least image extents old ≡ Some new
+    → (reads : List (List Meaning)) × (each (read_extent image) extents ≡ Some reads) × AreTaken limits least extents reads old new
 unfolding load_extents
-takes_all limits least image [] old new is =
-    record { reads = []; read = refl; filled = refl; takes = subst (Takes limits old [] []) (same_Some old new is) (takes_none limits old) }
-takes_all limits least image (extent ∷ extents) old new is =
+loads_taken limits least image [] old new is = ([], refl, same_Some old new is)
+loads_taken limits least image (extent ∷ extents) old new is =
     let (records, read, more) = some_then (read_extent image extent) (λ (records : List Meaning). take_records limits extent.block 0 records old >>= λ (next : Progress).
     given (is_last extents || nat_le least (pages_in records)) >>= λ (_ : ⊤). load_extents limits least image extents next) new is in
     let (middle, took, rest) = some_then (take_records limits extent.block 0 records old) (λ (next : Progress).
     given (is_last extents || nat_le least (pages_in records)) >>= λ (_ : ⊤). load_extents limits least image extents next) new more in
     let parts = given_then (is_last extents || nat_le least (pages_in records)) (λ (_ : ⊤). load_extents limits least image extents middle) new rest in
-    let behind = takes_all limits least image extents middle new parts.1 in
-    record {
-      reads = records ∷ behind.reads;
-      read = each_more (read_extent image) extent extents records behind.reads read behind.read;
-      filled = filled_cons least image records extents behind.reads behind.read parts.0 behind.filled;
-      takes = takes_then limits old middle new records (joined behind.reads) (placed extent.block 0 records) (placed_all extents behind.reads)
-          (takes_records limits extent.block 0 records old middle took) behind.takes;
-    }
-
--- an index has room for records
-pub record Room (limits : Limits) (old : Progress) (records : List Meaning) : Type 0 where
-  pub short : are_short limits.largest records ≡ true
-  pub rise : rise_to limits.now old.last (drop old.dead records) ≡ true
-  pub fits : pages_of old.index.entries + pages_in (drop old.dead records) ≤ limits.size
-
--- for those of the front, and for those behind once these were taken
-room_front : (limits : Limits) (old : Progress) (xs ys : List Meaning) → Room limits old (xs ++ ys) → Room limits old xs
-room_front limits old xs ys room =
-    let live = drop_both old.dead xs ys in
-    let all : pages_in (drop old.dead (xs ++ ys)) ≡ pages_in (drop old.dead xs) + pages_in (drop (old.dead - length xs) ys) =
-    ap pages_in live ∙ pages_both (drop old.dead xs) (drop (old.dead - length xs) ys) in
-    record {
-      short = one (are_short limits.largest xs) (are_short limits.largest ys)
-          (sym (list_all-append (λ (m : Meaning). nat_le (length m.packet) limits.largest) xs ys) ∙ room.short);
-      rise = rise_front limits.now old.last (drop old.dead xs) (drop (old.dead - length xs) ys) (ap (rise_to limits.now old.last) (sym live) ∙ room.rise);
-      fits = omega (arith, all, room.fits);
-    }
-
-room_back : (limits : Limits) (old middle : Progress) (xs ys : List Meaning) (es : List Entry) → Room limits old (xs ++ ys)
-    → map (λ (e : Entry). e.length) es ≡ map (λ (m : Meaning). length m.packet) xs
-    → Takes limits old xs es middle → Room limits middle ys
-room_back limits old middle xs ys es room same a =
-    let live : drop old.dead (xs ++ ys) ≡ drop old.dead xs ++ drop middle.dead ys =
-    drop_both old.dead xs ys ∙ ap (λ (k : ℕ). drop old.dead xs ++ drop k ys) (sym a.dead) in
-    let all : pages_in (drop old.dead (xs ++ ys)) ≡ pages_in (drop old.dead xs) + pages_in (drop middle.dead ys) =
-    ap pages_in live ∙ pages_both (drop old.dead xs) (drop middle.dead ys) in
-    let now_pages : pages_of middle.index.entries ≡ pages_of old.index.entries + pages_in (drop old.dead xs) =
-    ap (λ (x : TimeIndex). pages_of x.entries) a.index_is ∙ pages_more old.index.entries (drop old.dead es)
-    ∙ ap (λ (n : ℕ). pages_of old.index.entries + n) (pages_match old.dead es xs same) in
-    record {
-      short = two (are_short limits.largest xs) (are_short limits.largest ys)
-          (sym (list_all-append (λ (m : Meaning). nat_le (length m.packet) limits.largest) xs ys) ∙ room.short);
-      rise =
-          ap (λ (n : ℕ). rise_to limits.now n (drop middle.dead ys)) a.last
-          ∙ rise_back limits.now old.last (drop old.dead xs) (drop middle.dead ys) (ap (rise_to limits.now old.last) (sym live) ∙ room.rise);
-      fits = omega (arith, all, now_pages, room.fits);
-    }
+    let (reads, are, taken) = loads_taken limits least image extents middle new parts.1 in
+    (records ∷ reads, each_more (read_extent image) extent extents records reads read are, (middle, took, parts.0, taken))
 
 -- the entries of records have their lengths
 pub placed_lengths : (block page : ℕ) (records : List Meaning) → map (λ (e : Entry). e.length) (placed block page records) ≡ map (λ (m : Meaning). length m.packet) records
 placed_lengths block page [] = refl
 placed_lengths block page (m ∷ records) = ap (λ (l : List ℕ). length m.packet ∷ l) (placed_lengths block (page + charge_of (length m.packet)) records)
-
--- one record is taken where there is room
-room_one : (limits : Limits) (block page : ℕ) (meaning : Meaning) (rest : List Meaning) (old : Progress) → Room limits old (meaning ∷ rest)
-    → (new : Progress) × (take_one limits block page meaning old ≡ Some new)
-room_one limits block page meaning rest old room = by_dead old.dead refl
-  where
-    short : nat_le (length meaning.packet) limits.largest ≡ true
-    short = one (nat_le (length meaning.packet) limits.largest) (are_short limits.largest rest) room.short
-
-    by_dead : (dead : ℕ) → old.dead ≡ dead → (new : Progress) × (take_one limits block page meaning old ≡ Some new)
-    by_dead zero none =
-        let rise : rise_to limits.now old.last (meaning ∷ rest) ≡ true = ap (λ (n : ℕ). rise_to limits.now old.last (drop n (meaning ∷ rest))) (sym none) ∙ room.rise in
-        let cost : pages_in (drop old.dead (meaning ∷ rest)) ≡ charge_of (length meaning.packet) + pages_in rest = ap (λ (n : ℕ). pages_in (drop n (meaning ∷ rest))) none in
-        let allowed : may_follow limits old meaning ≡ true =
-        both (nat_le old.last meaning.stamp && nat_le meaning.stamp limits.now) (nat_le (pages_of old.index.entries + charge_of (length meaning.packet)) limits.size)
-        (one (nat_le old.last meaning.stamp && nat_le meaning.stamp limits.now) (rise_to limits.now meaning.stamp rest) rise)
-        (le-leb (pages_of old.index.entries + charge_of (length meaning.packet)) limits.size (omega (arith, cost, room.fits))) in (
-          with_live old (entry_at block page meaning),
-          rw short (ap (λ (n : ℕ). take_short limits n block page meaning old) none ∙ rw allowed refl),
-        )
-    by_dead (suc dead) some = (
-      record { index = old.index; dead = dead; last = old.last },
-      rw short (ap (λ (n : ℕ). take_short limits n block page meaning old) some),
-    )
-
--- and so are all of a block
-room_records : (limits : Limits) (block page : ℕ) (records : List Meaning) (old : Progress) → Room limits old records
-    → (new : Progress) × (take_records limits block page records old ≡ Some new)
-unfolding take_records
-room_records limits block page [] old room = (old, refl)
-room_records limits block page (meaning ∷ records) old room =
-    let (middle, took) = room_one limits block page meaning records old room in
-    let behind = room_back limits old middle (meaning ∷ []) records (entry_at block page meaning ∷ []) room refl (takes_one limits block page meaning old middle took) in
-    let (new, rest) = room_records limits block (page + charge_of (length meaning.packet)) records middle behind in
-    (new, rw took rest)
-
-filled_parts : (least : ℕ) (image : ℕ → List ℕ) (records : List Meaning) (extents : List Extent) (reads : List (List Meaning)) → each (read_extent image) extents ≡ Some reads
-    → are_filled least (records ∷ reads) ≡ true → ((is_last extents || nat_le least (pages_in records)) ≡ true) × (are_filled least reads ≡ true)
-filled_parts least image records [] reads are h =
-    (refl, ap (are_filled least) (sym (same_Some [] reads are)))
-filled_parts least image records (extent ∷ extents) [] are h = absurd (nothing (each_cons (read_extent image) extent extents [] are))
-  where
-    nothing : (y : List Meaning) × (zs : List (List Meaning)) × (read_extent image extent ≡ Some y) × (each (read_extent image) extents ≡ Some zs) × (y ∷ zs ≡ []) → ⊥
-    nothing (y, zs, a, b, e) = absurd (omega (arith, ap length e))
-filled_parts least image records (extent ∷ extents) (next ∷ reads) are h =
-    (one (nat_le least (pages_in records)) (are_filled least (next ∷ reads)) h, two (nat_le least (pages_in records)) (are_filled least (next ∷ reads)) h)
-
-pub room_all : (limits : Limits) (least : ℕ) (image : ℕ → List ℕ) (extents : List Extent) (reads : List (List Meaning)) (old : Progress)
-    → each (read_extent image) extents ≡ Some reads → are_filled least reads ≡ true → Room limits old (joined reads)
-    → (new : Progress) × (load_extents limits least image extents old ≡ Some new)
-unfolding load_extents
-room_all limits least image [] reads old are filled room = (old, refl)
-room_all limits least image (extent ∷ extents) reads old are filled room =
-    let (records, behind, read, rest, whole) = each_cons (read_extent image) extent extents reads are in
-    let room_here = subst (λ (l : List (List Meaning)). Room limits old (joined l)) (sym whole) room in
-    let (middle, took) = room_records limits extent.block 0 records old (room_front limits old records (joined behind) room_here) in
-    let left = room_back limits old middle records (joined behind) (placed extent.block 0 records) room_here (placed_lengths extent.block 0 records)
-    (takes_records limits extent.block 0 records old middle took) in
-    let parts = filled_parts least image records extents behind rest (ap (are_filled least) whole ∙ filled) in
-    let (new, more) = room_all limits least image extents behind middle rest parts.1 left in
-    (new, rw read (rw took (rw (parts.0) more)))

@@ -1,5 +1,5 @@
 -- The records of a store along its links.
-use Rattle.std.specs.Prelude.{ℕ, ◌+◌, ◌%◌, ◌==◌, List, [], ◌∷◌, ◌++◌, length, Option, Some}
+use Rattle.std.specs.Prelude.{◌≡◌, ⊤, ℕ, ◌+◌, ◌%◌, ◌==◌, List, [], ◌∷◌, ◌++◌, length, Option, Some}
 use Rattle.space_packet.specs.Charge.{charge_of}
 use Rattle.chain_log.specs.Pages.{block_octets}
 use Rattle.record_view.specs.Records.{Meaning, records_from}
@@ -24,6 +24,19 @@ pub record Extent : Type 0 where
 -- the records of an extent, if its block spells all of them
 unfoldable pub read_extent : (image : ℕ → List ℕ) → Extent → Option (List Meaning)
 read_extent image extent = all_records (block_octets image extent.block) extent.count extent.first 0
+
+-- The octets of some block spell these records, as many as the extent has.
+pub record IsGiven (extent : Extent) (records : List Meaning) : Type 0 where
+  pub block : List ℕ
+  pub whole : length block ≡ 65536
+  pub spelled : all_records block extent.count extent.first 0 ≡ Some records
+
+-- of each extent
+abbrev pub AreGiven : List Extent → List (List Meaning) → Type 0
+AreGiven [] [] = ⊤
+AreGiven [] (records ∷ reads) = ⊥
+AreGiven (extent ∷ extents) [] = ⊥
+AreGiven (extent ∷ extents) (records ∷ reads) = IsGiven extent records × AreGiven extents reads
 
 -- the extent of a link, whose records end before a number
 abbrev pub extent_to : (end : ℕ) → Link → Extent

@@ -9,3 +9,5 @@ pub mod Frame
 pub mod Moving
 pub mod Loading
 pub mod Loaded
+pub mod Held
+pub mod InRange

@@ -5,7 +5,7 @@ use Rattle.space_packet.specs.Charge.{charge_of}
 use Rattle.store_directory.specs.Options.{◌>>=◌, given}
 use Rattle.time_index.specs.TimeIndex.{TimeIndex, pages_of, with_entry}
 use Rattle.time_index.specs.declared.entry.Entry.{Entry}
-use Rattle.store_load.specs.Extents.{Extent, pages_in, read_extent}
+use Rattle.store_load.specs.Extents.{Extent, IsGiven, pages_in, read_extent}
 use Rattle.store_load.specs.Frame.{pages_read}
 use Rattle.store_load.specs.declared.loading.Limits.{Limits}
 use Rattle.store_load.specs.declared.stop.LoadStop.{LoadStop}
@@ -58,13 +58,13 @@ take_records limits block page (meaning ∷ records) progress = do
   next ← take_one limits block page meaning progress
   take_records limits block (page + charge_of (length meaning.packet)) records next
 
--- A block was loaded as an extent: if the flash is told, its records are those of the extent, and
--- on every board there are as many as the extent has, and the index took them.
+-- A block was loaded as an extent: on every board it spelled as many records as the extent has, and
+-- the index took them. If the flash is told, they are those of the extent.
 pub record IsLoaded (limits : Limits) (told : Type 0) (image : ℕ → List ℕ) (extent : Extent)
     (old new : Progress) (used : ℕ) : Type 0 where
   pub records : List Meaning
+  pub given : IsGiven extent records
   pub read : told → read_extent image extent ≡ Some records
-  pub count : length records ≡ extent.count
   pub used_is : used ≡ pages_in records
   pub within : used ≤ 256
   pub taken : take_records limits extent.block 0 records old ≡ Some new

@@ -5,12 +5,15 @@ ghost use Rattle.space_packet.specs.Charge.{charge_of};
 ghost use Rattle.record_view.specs.Records.{Meaning, record_at};
 ghost use Rattle.record_view.specs.declared.link.Link.{Link};
 ghost use Rattle.store_directory.specs.Directory.{swap_last, trimmed};
+ghost use Rattle.store_directory.specs.Rows.{is_lawful_row};
 ghost use Rattle.store_directory.specs.declared.row.Row.{Row};
 ghost use Rattle.store_load.specs.declared.rule.Rule.{Rule};
 ghost use Rattle.chain_log.specs.Pages.{block_octets};
 ghost use Rattle.store_load.specs.Extents.{end_of, extent_to, last_of, pages_in, read_extent};
 ghost use Rattle.store_load.specs.Frame.{in_store};
-ghost use Rattle.store_load.specs.Keeping.{IsInDevice, Keeps};
+ghost use Rattle.store_load.specs.Held.{IsHeld};
+ghost use Rattle.store_load.specs.InRange.{IsInRange};
+ghost use Rattle.store_load.specs.Keeping.{IsInDevice, IsLinkOf, Keeps};
 ghost use Rattle.store_load.specs.Kept.{kept_of};
 ghost use Rattle.store_load.specs.Loaded.{index_of, seen, shown};
 ghost use Rattle.store_load.specs.Moving.{GoesOn, IsNext, last_extent, used_by};
@@ -38,6 +41,17 @@ pub fn rows_count_their_records()
     ensures { (rule : Rule) (blocks : ℕ) (image : ℕ → List ℕ) (now : ℕ) (row : Row)
         (links : List Link) (records : List Meaning)
         → Keeps rule blocks image now row links records → length records ≡ row.count }
+{}
+
+/// Nothing of a store that was loaded is out of range, whether or not the board told its flash: the
+/// index has the row's first number, count and size; each entry's place lies in the block of the link
+/// that holds its number; the links' first numbers rise; and the blocks behind the first one are as
+/// full as the entries say.
+pub fn loaded_stores_are_in_range()
+    ensures { (rule : Rule) (blocks now : ℕ) (row : Row) (links : List Link) (index : TimeIndex)
+        (used : ℕ) → IsHeld rule now row links index used → All (IsLinkOf blocks) links
+        → length links ≤ 512 → 1 ≤ rule.least → is_lawful_row row ≡ true → row.first < 4294967296
+        → IsInRange rule now row links index used }
 {}
 
 /// A store has an index exactly where it keeps records, and the index lists them: their stamps and

@@ -12,7 +12,8 @@ mod store_loading;
 pub use claiming::claim;
 pub use laws::{
     blocks_are_begun, fronts_go, indexes_list_the_kept_records, last_blocks_may_be_swapped,
-    records_are_appended, rows_count_their_records, stores_are_read_from_their_records,
+    loaded_stores_are_in_range, records_are_appended, rows_count_their_records,
+    stores_are_read_from_their_records,
 };
 pub use rule::Rule;
 pub use stop::LoadStop;

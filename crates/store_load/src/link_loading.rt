@@ -6,10 +6,10 @@ ghost use Rattle.board.specs.Reads.{ReadsOnly};
 ghost use Rattle.record_view.specs.Records.{records_left};
 ghost use Rattle.store_load.specs.Extents.{end_of, extents_of, pages_in};
 ghost use Rattle.store_load.specs.Loading.{IsLoaded, IsRefused, OnLoadFlash, OnUnlawful, UnlessLoadFlash, UsedBefore, load_extents, take_records};
+ghost use Rattle.store_load.specs.Held.{IsTaken};
 ghost use Rattle.store_load.specs.Keeping.{IsInDevice};
 ghost use Rattle.std.specs.List.{All};
 ghost use Rattle.store_directory.specs.Rows.{between};
-ghost use Rattle.time_index.specs.TimeIndex.{pages_of};
 
 use crate::loading::{Limits, Loading};
 use crate::stop::LoadStop;
@@ -137,11 +137,8 @@ pub(crate) fn load_links<B: Board>(
         ≡ Some loading.new) }
     ensures used { IfOk result (λ used. TellsFlash B.means board.old → UsedBefore
         (B.means.flash board.old).content (extents_of row.now links.now) (length links.now) used) }
-    ensures within { IfOk result (λ used. used ≤ 256) }
-    ensures size { OnOk result (loading.new.index.size ≡ limits.size) }
-    ensures first { OnOk result (loading.new.index.first ≡ loading.old.index.first) }
-    ensures pages { OnOk result (pages_of loading.old.index.entries ≤ limits.size
-        → pages_of loading.new.index.entries ≤ limits.size) }
+    ensures taken { IfOk result (IsTaken limits least (extents_of row.now links.now) loading.old
+        loading.new) }
     ensures unlawful { OnUnlawful result (TellsFlash B.means board.old → load_extents limits least
         (B.means.flash board.old).content (extents_of row.now links.now) loading.old ≡ None) }
     ensures reads { ReadsOnly B.means (256 * length links.now) board.old board.new }

@@ -23,20 +23,73 @@ fn put(image: &mut [u8], page: usize, number: u32, stamp: u64)
     requires page { page < 200 }
     requires stamp { stamp < 1000 }
     requires room { 65536 * 8 ≤ length image.old }
+    ensures { length image.new ≡ length image.old }
 {
     if let Ok(view) = PacketView::read(&PACKET) {
         write_record(number, stamp, view, &mut image[256 * (1792 + page)..]);
     }
 }
 
-// A device of 16 blocks whose block 7 has the records 5, 6 and 7, of the stamps 4, 4 and 5.
+// Writes the records 5, 6 and 7 into block 7, of the stamps 4, 4 and 5.
+fn spell(image: &mut [u8])
+    requires room { 65536 * 8 ≤ length image.old }
+    ensures { length image.new ≡ length image.old }
+{
+    put(image, 0, 5, 4);
+    put(image, 1, 6, 4);
+    put(image, 2, 7, 5);
+}
+
+// A device of 16 blocks whose block 7 has these records.
 fn device(alloc: Global) -> Result<MemBoard, Fail>
     ensures { IfOk result (λ board. (device_of board).blocks ≡ 16) }
 {
     let mut image = vec![in alloc; 255u8; 65_536 * 16]?;
-    put(&mut image, 0, 5, 4);
-    put(&mut image, 1, 6, 4);
-    put(&mut image, 2, 7, 5);
+    spell(&mut image);
+    Ok(MemBoard::from_image(alloc, image)?)
+}
+
+// Turns a bit of an octet of the third record.
+fn spoil(image: &mut [u8], at: usize)
+    requires at { at < 256 }
+    requires room { 65536 * 8 ≤ length image.old }
+    ensures { length image.new ≡ length image.old }
+{
+    image[256 * 1794 + at] ^= 1;
+}
+
+// The same device, but for a bit of an octet of the third record.
+fn spoiled(alloc: Global, at: usize) -> Result<MemBoard, Fail>
+    requires at { at < 256 }
+    ensures { IfOk result (λ board. (device_of board).blocks ≡ 16) }
+{
+    let mut image = vec![in alloc; 255u8; 65_536 * 16]?;
+    spell(&mut image);
+    spoil(&mut image, at);
+    Ok(MemBoard::from_image(alloc, image)?)
+}
+
+// Writes so many records of one page into block 7, from the number 0 on, of the stamp 4.
+fn fill(image: &mut [u8], many: u32)
+    requires many { many ≤ 256 }
+    requires room { 65536 * 9 ≤ length image.old }
+    ensures { length image.new ≡ length image.old }
+{
+    for number in 0..many {
+        if let Ok(view) = PacketView::read(&PACKET) {
+            let at = 256 * (1792 + number as usize);
+            write_record(number, 4, view, &mut image[at..]);
+        }
+    }
+}
+
+// A device of 16 blocks whose block 7 has so many records.
+fn filled(alloc: Global, many: u32) -> Result<MemBoard, Fail>
+    requires many { many ≤ 256 }
+    ensures { IfOk result (λ board. (device_of board).blocks ≡ 16) }
+{
+    let mut image = vec![in alloc; 255u8; 65_536 * 16]?;
+    fill(&mut image, many);
     Ok(MemBoard::from_image(alloc, image)?)
 }
 
@@ -118,6 +171,46 @@ fn a_failed_read_is_no_lack_of_records(rt: HostRuntime) -> Result<(), Fail> {
         assert!(rt; matches!(stopped, Err(LoadStop::Flash)));
         let again = loaded(rt.alloc(), &mut board, &row, 5, 5)?;
         assert!(rt; matches!(again, Ok((3, 3))));
+    }
+    Ok(())
+}
+
+#[test]
+fn each_octet_of_a_head_counts(rt: HostRuntime) -> Result<(), Fail> {
+    let row = Row {
+        first: 5,
+        count: 3,
+        ..ROW
+    };
+    for at in 0..16 {
+        let mut board = spoiled(rt.alloc(), at)?;
+        let stopped = loaded(rt.alloc(), &mut board, &row, 5, 5)?;
+        // octet 5 makes the stamp 5 a 4, which is lawful too
+        if at == 5 {
+            assert!(rt; matches!(stopped, Ok((3, 3))));
+        } else {
+            assert!(rt; matches!(stopped, Err(LoadStop::Unlawful)), "octet {at}");
+        }
+    }
+    Ok(())
+}
+
+#[test]
+fn a_block_is_loaded_to_its_last_page(rt: HostRuntime) -> Result<(), Fail> {
+    // how many records the block has and the row counts, and whether the store is loaded
+    let cases = [(255, 255, true), (256, 256, true), (255, 256, false)];
+    for (many, count, good) in cases {
+        let mut board = filled(rt.alloc(), many)?;
+        let row = Row {
+            size: 300,
+            first: 0,
+            count,
+            ..ROW
+        };
+        match loaded(rt.alloc(), &mut board, &row, 0, 4)? {
+            Ok(pages) => assert_eq!(rt; Some(pages), good.then_some((count, count))),
+            Err(stop) => assert!(rt; !good && matches!(stop, LoadStop::Unlawful)),
+        }
     }
     Ok(())
 }

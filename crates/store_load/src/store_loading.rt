@@ -1,16 +1,16 @@
 // A store, loaded from the flash as it is opened.
-ghost use Rattle.std.specs.Prelude.{◌≡◌, ◌≤◌, ◌*◌, None, Some, length, true, IfOk};
+ghost use Rattle.std.specs.Prelude.{◌≡◌, ◌*◌, None, Some, length, true, IfOk};
 ghost use Rattle.std.specs.List.{All};
 ghost use Rattle.board.specs.Counts.{Rose};
 ghost use Rattle.board.specs.Meaning.{TellsFlash};
 ghost use Rattle.board.specs.Reads.{ReadsOnly};
 ghost use Rattle.store_directory.specs.Rows.{is_by, is_lawful_row};
 ghost use Rattle.store_load.specs.Keeping.{IsInDevice};
+ghost use Rattle.store_load.specs.Held.{IsHeld};
 ghost use Rattle.store_load.specs.Kept.{dead_by};
 ghost use Rattle.store_load.specs.Kept as kept;
 ghost use Rattle.store_load.specs.Loaded.{index_of, limits_of, start_of, used_in};
 ghost use Rattle.store_load.specs.Loading.{OnLoadFlash, OnUnlawful, UnlessLoadFlash};
-ghost use Rattle.time_index.specs.TimeIndex.{pages_of};
 
 use crate::link_loading::{count_to, load_links};
 use crate::loading::{Limits, Loading};
@@ -74,8 +74,8 @@ fn begin(alloc: Global, row: &Row, links: &[Link]) -> Result<Loading, AllocError
 }
 
 /// Loads the index of a store by its row and its links. The row is lawful, the links name blocks of
-/// the board, and `buf` has 65,536 octets, which may be any afterwards. It reads each block once,
-/// and nothing else.
+/// the board, and `buf` has 65,536 octets, which may be any afterwards. It reads 256 pages at most
+/// for each block, in the order of the links, and changes nothing.
 ///
 /// `Flash`: a read failed. `Unlawful`: the flash does not hold such records as the store may have.
 /// `NoMemory`: the index found no memory.
@@ -102,11 +102,8 @@ pub fn load_store<B: Board>(
         → index_of rule (B.means.flash board.old).content now row.now links.now ≡ None) }
 
     // What holds on each board.
-    ensures begins { IfOk result (λ loaded. kept.begins_well row.now links.now ≡ true) }
-    ensures first { IfOk result (λ loaded. loaded.index.first ≡ row.now.first) }
-    ensures size { IfOk result (λ loaded. loaded.index.size ≡ row.now.size) }
-    ensures pages { IfOk result (λ loaded. pages_of loaded.index.entries ≤ row.now.size) }
-    ensures within { IfOk result (λ loaded. loaded.used ≤ 256) }
+    ensures held { IfOk result (λ loaded.
+        IsHeld rule now row.now links.now loaded.index loaded.used) }
     ensures reads { ReadsOnly B.means (256 * length links.now) board.old board.new }
     ensures no_fault { UnlessLoadFlash result
         ((B.means.counts board.new).flash_faults ≡ (B.means.counts board.old).flash_faults) }

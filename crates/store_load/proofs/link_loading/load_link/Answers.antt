@@ -9,7 +9,7 @@ returns-in-Ok-clause-loaded g c =
     let link = c.args.link in
     loaded_of c.args.limits (TellsFlash means old) (means.flash old).content
     (record { block = link.block; first = link.first; count = c.args.count }) c.in-Ok.records c.args.loading.now
-    c.in-Ok.ensures.records c.in-Ok.ensures.asked c.keep_all.new.loading c.keep_all.result c.keep_all.ensures.loaded
+    c.in-Ok.ensures.records c.in-Ok.ensures.whole c.in-Ok.ensures.asked c.keep_all.new.loading c.keep_all.result c.keep_all.ensures.loaded
 
 pub returns-in-Ok-clause-unlawful : goal.returns-in-Ok-clause-unlawful
 returns-in-Ok-clause-unlawful g c =
@@ -18,4 +18,4 @@ returns-in-Ok-clause-unlawful g c =
     let link = c.args.link in
     refused_of c.args.limits (TellsFlash means old) (means.flash old).content
     (record { block = link.block; first = link.first; count = c.args.count }) c.in-Ok.records c.args.loading.now
-    c.in-Ok.ensures.records c.in-Ok.ensures.asked c.keep_all.result c.keep_all.ensures.unlawful
+    c.in-Ok.ensures.records c.in-Ok.ensures.whole c.in-Ok.ensures.asked c.keep_all.result c.keep_all.ensures.unlawful

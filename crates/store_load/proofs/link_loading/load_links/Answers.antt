@@ -7,8 +7,7 @@ use Rattle.record_view.specs.declared.link.Link.{Link}
 use Rattle.store_load.specs.Extents.{Extent, end_of, extents_of, pages_in, read_extent}
 use Rattle.store_load.specs.Loading.{UsedBefore, is_last, load_extents}
 use Rattle.store_load.proofs.LinkWalks.{all_at, as_many, extents_at, last_at, next_loaded, not_filled, not_loaded, nothing_left, on_unlawful, used_here}
-use Rattle.store_load.proofs.Takings.{takes_records}
-use Rattle.time_index.specs.TimeIndex.{TimeIndex}
+use Rattle.store_load.proofs.TakenOn.{TakesOn, takes_first, takes_last, takes_next}
 use Rattle.store_load.proofs.link_loading.load_links.Goals as goal
 
 pub loop-at-init : goal.loop-at-init
@@ -18,9 +17,7 @@ loop-at-init g c =
     record {
       rest = λ told. refl;
       used_is = λ told. refl;
-      within = omega arith;
-      first = refl;
-      pages = λ h. h;
+      taken = takes_first c.args.limits c.args.least (extents_of c.args.row.now c.args.links.now) c.args.loading.now;
       size = c.requires.size;
       reads = reads_none means old (λ image told left. g.met.B.Board.images_now old image told left);
       no_fault = refl;
@@ -91,7 +88,6 @@ loop-at-preserved g c =
     let part = c.extent_at-count.result in
     let extent : Extent = record { block = part.0.block; first = part.0.first; count = part.1 } in
     let loaded = c.in-Ok.ensures.loaded in
-    let takes = takes_records c.args.limits extent.block 0 loaded.records c.loop-at.loading c.load_link.new.loading loaded.taken in
     let many = as_many (end_of c.args.row.now) c.args.links.now in
     let more : suc c.loop-at.at ≡ c.loop-at.at + 1 = omega arith in
     let filled : (is_last (drop (suc c.loop-at.at) extents) || nat_le c.args.least (pages_in loaded.records)) ≡ true =
@@ -115,9 +111,11 @@ loop-at-preserved g c =
           sym (ap (λ (f : Flash). read_extent f.content extent) flash) ∙ loaded.read (tells_too so_far.reads.same told) in
           subst (λ n. UsedBefore (means.flash old).content extents n c.in-Ok.pages) more
           (used_here (means.flash old).content extents c.loop-at.at extent loaded.records c.in-Ok.pages c.extent_at-count.ensures.extent read loaded.used_is);
-      within = loaded.within;
-      first = ap (λ (x : TimeIndex). x.first) takes.index_is ∙ so_far.first;
-      pages = λ h. takes.fits (so_far.pages h);
+      taken =
+          subst (λ n. TakesOn c.args.limits c.args.least extents c.args.loading.now n c.in-Ok.pages c.load_link.new.loading) more
+          (takes_next c.args.limits c.args.least extents c.args.loading.now c.loop-at.at c.loop-at.used c.in-Ok.pages c.loop-at.loading
+          c.load_link.new.loading extent loaded.records (extents_at extents c.loop-at.at extent c.extent_at-count.ensures.extent)
+          loaded.given loaded.taken filled loaded.used_is so_far.taken);
       size = c.in-Ok.ensures.size;
       reads =
           reads_most means old c.load_link.new.board
@@ -133,3 +131,10 @@ returns-clause-used g c = λ told.
     let extents = extents_of c.args.row.now links in
     let content = (means.flash c.args.board.now).content in
     subst (λ n. UsedBefore content extents n c.loop-at.used) (omega (arith, c.loop-at-test.false, c.loop-at.far-at)) (c.loop-at.invariant.used_is told)
+
+pub returns-clause-taken : goal.returns-clause-taken
+returns-clause-taken g c =
+    let extents = extents_of c.args.row.now c.args.links.now in
+    let many = as_many (end_of c.args.row.now) c.args.links.now in
+    takes_last c.args.limits c.args.least extents c.args.loading.now c.loop-at.at c.loop-at.used c.loop-at.loading
+    (omega (arith, many, c.loop-at-test.false, c.loop-at.far-at)) c.loop-at.invariant.taken

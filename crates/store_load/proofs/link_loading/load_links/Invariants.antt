@@ -1,9 +1,9 @@
-use Rattle.std.proofs.Common.{◌≡◌, ◌≤◌, ◌*◌, drop}
+use Rattle.std.proofs.Common.{◌≡◌, ◌*◌, drop}
 use Rattle.board.specs.Meaning.{TellsFlash}
 use Rattle.board.specs.Reads.{ReadsOnly}
 use Rattle.store_load.specs.Extents.{extents_of}
 use Rattle.store_load.specs.Loading.{UsedBefore, load_extents}
-use Rattle.time_index.specs.TimeIndex.{pages_of}
+use Rattle.store_load.proofs.TakenOn.{TakesOn}
 use Rattle.store_load.proofs.link_loading.load_links.Given as goal
 
 abbrev pub invariant-loop-at : goal.invariant-loop-at
@@ -14,9 +14,7 @@ invariant-loop-at g l =
       rest : TellsFlash means old → load_extents l.limits l.least (means.flash old).content (drop l.at (extents_of l.row l.links)) l.loading
           ≡ load_extents l.limits l.least (means.flash old).content (extents_of l.row l.links) l.fn.loading;
       used_is : TellsFlash means old → UsedBefore (means.flash old).content (extents_of l.row l.links) l.at l.used;
-      within : l.used ≤ 256;
-      first : l.loading.index.first ≡ l.fn.loading.index.first;
-      pages : pages_of l.fn.loading.index.entries ≤ l.limits.size → pages_of l.loading.index.entries ≤ l.limits.size;
+      taken : TakesOn l.limits l.least (extents_of l.row l.links) l.fn.loading l.at l.used l.loading;
       size : l.loading.index.size ≡ l.limits.size;
       reads : ReadsOnly means (256 * l.at) old l.board;
       no_fault : (means.counts l.board).flash_faults ≡ (means.counts old).flash_faults;

@@ -1,11 +1,15 @@
-use Rattle.std.proofs.Common.{◌≡◌, Some, true, ℕ, Err, sym, ◌∙◌, ap, arith}
+use Rattle.std.proofs.Common.{◌≡◌, Some, true, ℕ, Err, sym, ◌∙◌, ap, subst, arith}
 use Rattle.board.proofs.Reading.{reads_most, reads_none}
+use Rattle.board.specs.Flash.{blank}
 use Rattle.store_load.specs.Extents.{extents_of}
+use Rattle.store_load.specs.Held.{AreTaken}
 use Rattle.store_load.specs.Kept as kept
 use Rattle.store_load.specs.Loaded.{limits_of, start_of}
-use Rattle.store_load.specs.Loading.{load_extents}
-use Rattle.store_load.proofs.Indexed.{loaded_index, not_begun, unloaded_index}
+use Rattle.store_load.specs.Loading.{Progress, load_extents}
+use Rattle.store_load.proofs.Indexed.{loaded_index, not_begun, taken_index, unloaded_index}
 use Rattle.store_load.proofs.LinkWalks.{on_unlawful, used_last}
+use Rattle.store_load.proofs.TakenOn.{given_many}
+use Rattle.store_load.specs.declared.loading.Limits.{Limits}
 use Rattle.store_load.proofs.store_loading.load_store.Goals as goal
 
 pub returns-then-not-begins_well-clause-unlawful :
@@ -54,3 +58,24 @@ returns-in-Err-clause-unlawful g c =
     on_unlawful {A = ℕ} (Err c.in-Err.stop)
     (λ refused told. unloaded_index c.args.rule content c.args.now c.args.row.now c.args.links.now begun (sym same ∙ refused told))
     c.in-Err.ensures.unlawful
+
+pub returns-in-Ok-load_links-clause-held : goal.returns-in-Ok-load_links-clause-held
+returns-in-Ok-load_links-clause-held g c =
+    let row = c.args.row.now in
+    let links = c.args.links.now in
+    let taken = c.in-Ok-load_links.ensures.taken in
+    let are : AreTaken (limits_of c.args.rule c.args.now row) c.args.rule.least (extents_of row links) taken.reads (start_of row links) c.load_links.new.loading =
+    subst (λ (p : Progress). AreTaken (limits_of c.args.rule c.args.now row) c.args.rule.least (extents_of row links) taken.reads p c.load_links.new.loading)
+    c.in-Ok.ensures
+    (subst (λ (l : Limits). AreTaken l c.args.rule.least (extents_of row links) taken.reads c.in-Ok.loading c.load_links.new.loading) c.limits_of-limits.ensures
+    taken.taken) in
+    record {
+      begins = sym c.begins_well.ensures ∙ c.if-not-begins_well.false;
+      reads = taken.reads;
+      given = taken.given;
+      index_is =
+          taken_index c.args.rule (λ p. blank) c.args.now row links taken.reads c.load_links.new.loading
+          (given_many (extents_of row links) taken.reads taken.given) are
+          ∙ ap Some (sym c.into_index.ensures);
+      used_is = taken.used_is;
+    }

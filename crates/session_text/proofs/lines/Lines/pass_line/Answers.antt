@@ -109,4 +109,3 @@ pub returns-in-Past-clause-asks : goal.returns-in-Past-clause-asks
 returns-in-Past-clause-asks g c =
     Asks-found (reader_of c.args.self.now) (reader_of c.end_past.new.self) _ c.find_line.new.held _ _ _ _ 0 c.requires c.if-self.false
     c.in-Past.ensures.text c.in-Past.ensures.takes.0 c.in-Past.ensures.takes.1 (omega (arith, spare_most (reader_of c.end_past.new.self)))
-
