@@ -189,6 +189,8 @@ fn each_call_counts_its_lines(rt: HostRuntime) -> Result<(), Fail> {
     assert!(rt; handler.grant(&mut board, 2) == Ok(retrieved));
     assert!(rt; handler.is_open());
     assert!(rt; handler.grant(&mut board, 3) == Ok(Sent::default()));
+    assert!(rt; handler.is_open());
+    assert!(rt; handler.idle(&mut board, 3) == Ok(Sent::default()));
     let replies = Sent {
         replies: 2,
         octets: 98,
