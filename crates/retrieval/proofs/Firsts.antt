@@ -12,7 +12,7 @@ use Rattle.store_directory.specs.Directory.{IsListed, Listed}
 use Rattle.store_directory.specs.Rows.{is_lawful_row, is_range}
 use Rattle.store_directory.specs.declared.row.Row.{Row}
 use Rattle.retrieval.specs.declared.pick.Pick.{Pick}
-use Rattle.retrieval.specs.Grants.{IsHeld}
+use Rattle.retrieval.specs.Grants.{IsHeld, IsRowAt}
 use Rattle.retrieval.specs.Picks.{IsPickOf, first_pick, has_ahead, has_range, open_pick, pick_of, range_pick}
 
 -- the row at a place is the first one that passes
@@ -121,6 +121,9 @@ picked_there stores =
     (λ pick is.
     let first = of_first has_ahead open_pick 0 stores pick is in
     (first.listed, place_kept open_pick (λ at row. refl) has_ahead stores pick first))
+
+pub row_there : (stores : List Listed) (at : ℕ) (row : Row) (s : Listed) → IsRowAt stores at row → slice_get stores at ≡ Some s → row ≡ s.row
+row_there stores at row s here there = subst (λ (found : Option Listed). IfSome found (λ x. row ≡ x.row)) there here
 
 -- and is the next packet of it
 module _ (stores : List Listed) (all : All IsListed stores) where

@@ -9,10 +9,10 @@ use Rattle.pst_model.specs.Rules.{Output, Retrieved, Step, at_first, grant, gran
 use Rattle.pst_model.specs.Table.{Store, Table}
 use Rattle.store_directory.specs.Directory.{Listed}
 use Rattle.store_directory.specs.declared.row.Row.{Row}
-use Rattle.retrieval.specs.Grants.{AreByRows, IsByRow, Sends, sends_nothing, with_positions}
+use Rattle.retrieval.specs.Grants.{AreByRows, IsByRow, IsRowAt, Sends, sends_nothing, with_positions}
 use Rattle.retrieval.specs.Picks.{first_pick, has_ahead, has_range, open_pick, pick_of, range_pick, sent_row}
 use Rattle.retrieval.specs.declared.pick.Pick.{Pick}
-use Rattle.retrieval.proofs.Firsts.{IsFirstRow, of_first, picked_there}
+use Rattle.retrieval.proofs.Firsts.{IsFirstRow, of_first, picked_there, row_there}
 
 -- a test of stores is that of their rows
 abbrev Agree : (Store → Bool) → (Row → Bool) → Type 0
@@ -149,10 +149,10 @@ module _ (number : ℕ) (table : Table) (rows : List Listed) (are : AreByRows ta
   no_range : first_pick has_range range_pick 0 rows ≡ None → grant number table ≡ grant_open number table (find model.has_ahead table.stores)
   no_range is = ap (grant_range number table) (none_found model.has_range has_range range_agrees table.stores rows range_pick 0 are is)
 
-  pub sent : (pick : Pick) (s : Listed) → pick_of rows ≡ Some pick → slice_get rows pick.at ≡ Some s
+  pub sent_by : (pick : Pick) (s : Listed) → pick_of rows ≡ Some pick → slice_get rows pick.at ≡ Some s
       → Sends number table pick (sent_row pick.range s.row) (grant number table)
   unfolding by_open by_range
-  sent pick s picked there = by (first_pick has_range range_pick 0 rows) refl picked
+  sent_by pick s picked there = by (first_pick has_range range_pick 0 rows) refl picked
     where
       by : (found : Option Pick) → first_pick has_range range_pick 0 rows ≡ found → option_or found (first_pick has_ahead open_pick 0 rows) ≡ Some pick
           → Sends number table pick (sent_row pick.range s.row) (grant number table)
@@ -160,6 +160,12 @@ module _ (number : ℕ) (table : Table) (rows : List Listed) (are : AreByRows ta
           way_sends (by_range number) s pick (is ∙ same) there (λ store found. ap (grant_range number table) found)
       by None is same =
           way_sends (by_open number) s pick same there (λ store found. no_range is ∙ ap (grant_open number table) found)
+
+  pub sent : (pick : Pick) (row : Row) → pick_of rows ≡ Some pick → IsRowAt rows pick.at row → Sends number table pick (sent_row pick.range row) (grant number table)
+  sent pick row picked here =
+      let there = picked_there rows pick picked in
+      subst (λ (r : Row). Sends number table pick (sent_row pick.range r) (grant number table)) (sym (row_there rows pick.at row there.0 here there.1))
+      (sent_by pick there.0 picked there.1)
 
   nothing : pick_of rows ≡ None → grant number table ≡ sends_nothing table
   nothing picked = by (first_pick has_range range_pick 0 rows) refl picked
@@ -175,7 +181,7 @@ module _ (number : ℕ) (table : Table) (rows : List Listed) (are : AreByRows ta
   something pick picked none = by (slice_get rows pick.at) refl
     where
       by : (found : Option Listed) → slice_get rows pick.at ≡ found → ⊥
-      by (Some s) is = let sends = sent pick s picked is in some_outputs (sym sends.outputs ∙ ap (λ (x : Step). x.outputs) none)
+      by (Some s) is = let sends = sent_by pick s picked is in some_outputs (sym sends.outputs ∙ ap (λ (x : Step). x.outputs) none)
         where
           some_outputs : {output : Output} {outputs : List Output} → output ∷ outputs ≡ [] → ⊥
           some_outputs is = cc

@@ -1,5 +1,5 @@
 -- What a grant does to a table, by the rows of its stores (ECSS-E-ST-70-41C, 6.15.3).
-use Rattle.std.specs.Prelude.{◌≡◌, ◌<◌, ⊤, ℕ, IsSomeAnd, List, [], ◌∷◌, Some, length, slice_get, slice_set}
+use Rattle.std.specs.Prelude.{◌≡◌, ◌<◌, ⊤, ℕ, IfSome, IsSomeAnd, List, [], ◌∷◌, Some, length, slice_get, slice_set}
 use Rattle.pst_model.specs.Rules.{Retrieved, Step, packet_at}
 use Rattle.pst_model.specs.Table.{Store, Table}
 use Rattle.store_directory.specs.Directory.{Listed}
@@ -11,6 +11,10 @@ use Rattle.retrieval.specs.declared.pick.Pick.{Pick}
 abbrev pub IsHeld : List Listed → Pick → Type 0
 IsHeld stores pick =
     IsSomeAnd (slice_get stores pick.at) (λ s. IsPickOf s.row pick × (pick.position < s.row.count))
+
+-- a row is that of the store at a place, where one stands there
+abbrev pub IsRowAt : List Listed → (at : ℕ) → Row → Type 0
+IsRowAt stores at row = IfSome (slice_get stores at) (λ s. row ≡ s.row)
 
 -- What a grant reads of a store stands in a row.
 pub record IsByRow (store : Store) (row : Row) : Type 0 where

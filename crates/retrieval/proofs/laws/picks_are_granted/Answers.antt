@@ -5,4 +5,4 @@ pub returns-clause-none : goal.returns-clause-none
 returns-clause-none c = nothing_if
 
 pub returns-clause-some : goal.returns-clause-some
-returns-clause-some c = λ number table stores pick s are picked there. sent number table stores are pick s picked there
+returns-clause-some c = λ number table stores pick row are picked here. sent number table stores are pick row picked here
