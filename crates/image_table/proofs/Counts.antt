@@ -1,6 +1,6 @@
 -- The directory, its table and the memory behind counted reports.
 use Rattle.std.proofs.Common.{◌≡◌, ℕ, ◌<◌, nat_lt, List, length, Some, refl, sym, ◌∙◌, ap, subst, arith}
-use Rattle.std.specs.Prelude.{⊤, IsSome, is_some}
+use Rattle.std.specs.Prelude.{⊤}
 use Rattle.std.proofs.lemmas.Bool.{lt-ltb}
 use Rattle.std.proofs.lemmas.Option.{same_Some}
 use Rattle.pst_model.specs.Replies.{replied}
@@ -25,10 +25,10 @@ clock_applied : (d : Directory) (now reports : ℕ) → reports < 16384 → appl
 unfolding apply
 clock_applied d now reports few = rw (lt-ltb reports 16384 few) refl
 
-pub clock_fits : (d : Directory) (now reports : ℕ) → reports < 16384 → IsSome (apply d (Clock now reports))
-clock_fits d now reports few = ap is_some (clock_applied d now reports few)
+pub clock_fits : (d : Directory) (now reports : ℕ) → reports < 16384 → (next : Directory) × (apply d (Clock now reports) ≡ Some next)
+clock_fits d now reports few = (at_clock now reports d, clock_applied d now reports few)
 
-pub count_fits : (d : Directory) (reports : ℕ) → IsSome (apply d (counted reports d))
+pub count_fits : (d : Directory) (reports : ℕ) → (next : Directory) × (apply d (counted reports d) ≡ Some next)
 count_fits d reports = clock_fits d d.now (count_behind d.reports reports) (omega arith)
 
 pub count_goes : (blocks : ℕ) (image : ℕ → List ℕ) (d next : Directory) (table : Table) (number moment : ℕ) (reports : List Report)

@@ -1,6 +1,6 @@
 -- The directory, its table and the memory behind a grant.
 use Rattle.std.proofs.Common.{◌≡◌, ℕ, zero, suc, ◌<◌, ◌≤◌, ◌&&◌, nat_eq, nat_le, nat_lt, true, Bool, List, [], ◌∷◌, length, slice_set, Option, Some, refl, sym, ◌∙◌, ap, subst, arith}
-use Rattle.std.specs.Prelude.{IsSome, IsSomeAnd, None, is_some, slice_get}
+use Rattle.std.specs.Prelude.{IsSomeAnd, None, slice_get}
 use Rattle.std.specs.List.{list_all}
 use Rattle.std.proofs.lemmas.Bool.{and_parts}
 use Rattle.std.proofs.lemmas.Bool.Decides.{nat_tests}
@@ -132,9 +132,6 @@ module _ (blocks : ℕ) (image : ℕ → List ℕ) (d : Directory) (table : Tabl
       at_most : (a b : ℕ) → nat_le a b ≡ true → a ≤ b
       at_most a b is = grind (arith, nat_tests)
 
-  row_fits_so : IsSome (apply d (put_sent pick s.row))
-  row_fits_so = ap is_some applied
-
   stores_made : (number : ℕ) → each (store_of image d.now) after_stores ≡ Some (grant number table).table.stores
   stores_made number =
       let send = sends number in
@@ -166,10 +163,12 @@ module _ (blocks : ℕ) (image : ℕ → List ℕ) (d : Directory) (table : Tabl
 
 -- the laws as they are stated
 module _ (blocks : ℕ) (image : ℕ → List ℕ) (table : Table) (pick : Pick) (row : Row) where
-  pub row_fits : (d : Directory) → Grants blocks image d table pick row → IsSome (apply d (put_sent pick row))
+  pub row_fits : (d : Directory) → Grants blocks image d table pick row → (next : Directory) × (apply d (put_sent pick row) ≡ Some next)
   row_fits d grants =
-      let found = served blocks image d table pick row grants in
-      subst (λ (r : Row). IsSome (apply d (put_sent pick r))) found.same (row_fits_so blocks image d table pick found.store found.serves)
+      let found = served blocks image d table pick row grants in (
+        with_stores d (slice_set d.stores pick.at (sent_listed pick.range found.store)),
+        ap (λ (r : Row). apply d (put_sent pick r)) (sym found.same) ∙ applied blocks image d table pick found.store found.serves,
+      )
 
   pub table_goes : (d next : Directory) (number : ℕ) → Grants blocks image d table pick row → apply d (put_sent pick row) ≡ Some next → table_by blocks image next ≡ Some (grant number table).table
   table_goes d next number grants is =

@@ -1,6 +1,6 @@
 // Laws on what a grant and counted reports make of a table, of its directory, and of what memory
 // shows of it.
-ghost use Rattle.std.specs.Prelude.{◌≡◌, ◌<◌, ℕ, IsSome, List, Some, length, slice_get};
+ghost use Rattle.std.specs.Prelude.{◌≡◌, ◌<◌, ℕ, List, Some, length, slice_get};
 ghost use Rattle.board.specs.Flash.{IsContent};
 ghost use Rattle.pst_model.specs.Replies.{replied};
 ghost use Rattle.pst_model.specs.Reports.{Report};
@@ -47,7 +47,8 @@ pub fn packets_are_kept_records()
 /// the table before shows the one behind, with the same indexes.
 pub fn grants_go_on()
     ensures fits { (blocks : ℕ) (image : ℕ → List ℕ) (d : Directory) (table : Table) (pick : Pick)
-        (row : Row) → Grants blocks image d table pick row → IsSome (apply d (put_sent pick row)) }
+        (row : Row) → Grants blocks image d table pick row
+        → (next : Directory) × (apply d (put_sent pick row) ≡ Some next) }
     ensures table { (blocks : ℕ) (image : ℕ → List ℕ) (d next : Directory) (table : Table)
         (pick : Pick) (row : Row) (number : ℕ) → Grants blocks image d table pick row
         → apply d (put_sent pick row) ≡ Some next
@@ -68,7 +69,7 @@ pub fn grants_go_on()
 /// it with this time and this count after that, with the same indexes.
 pub fn clocks_are_shown()
     ensures fits { (d : Directory) (now reports : ℕ) → reports < 16384
-        → IsSome (apply d (Clock now reports)) }
+        → (next : Directory) × (apply d (Clock now reports) ≡ Some next) }
     ensures shown { (view after : View) (table : Table) (now reports : ℕ)
         → Renews (Clock now reports) view after → IsTableShown table view
         → IsTableShown (record table { now = now; reports = reports }) after }
@@ -82,7 +83,8 @@ pub fn clocks_are_shown()
 /// that is of the table behind these reports, and memory that shows the table before shows the one
 /// behind, with the same indexes.
 pub fn counts_go_on()
-    ensures fits { (d : Directory) (reports : ℕ) → IsSome (apply d (counted reports d)) }
+    ensures fits { (d : Directory) (reports : ℕ)
+        → (next : Directory) × (apply d (counted reports d) ≡ Some next) }
     ensures table { (blocks : ℕ) (image : ℕ → List ℕ) (d next : Directory) (table : Table)
         (number moment : ℕ) (reports : List Report) → table_by blocks image d ≡ Some table
         → apply d (counted (length reports) d) ≡ Some next
