@@ -21,15 +21,15 @@ pub record Grants (blocks : ℕ) (image : ℕ → List ℕ) (d : Directory) (tab
   pub picked : pick_of d.stores ≡ Some pick
   pub here : IsRowAt d.stores pick.at row
 
--- the change of a grant: the row of the store behind its packet
+-- the change of a grant: the row of the store after its packet was sent
 abbrev pub put_sent : Pick → Row → Change
 put_sent pick row = Put (sent_row pick.range row)
 
--- the change behind so many reports, where no time was given
+-- the change that counts so many reports, at the directory's own time
 abbrev pub counted : (reports : ℕ) → Directory → Change
 counted reports d = Clock d.now (count_behind d.reports reports)
 
--- Memory behind a change of its directory that leaves the indexes as they are.
+-- Memory after a change of its directory that leaves the indexes as they are.
 pub record Renews (change : Change) (view after : View) : Type 0 where
   pub applied : apply view.directory.now.directory change ≡ Some after.directory.now.directory
   pub indexes : after.indexes.now ≡ view.indexes.now

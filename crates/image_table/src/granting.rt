@@ -1,5 +1,5 @@
 // Laws on what a grant and counted reports make of a table, of its directory, and of what memory
-// shows of it.
+// shows.
 ghost use Rattle.std.specs.Prelude.{◌≡◌, ◌<◌, ℕ, List, Some, length, slice_get};
 ghost use Rattle.board.specs.Flash.{IsContent};
 ghost use Rattle.pst_model.specs.Replies.{replied};
@@ -30,8 +30,8 @@ pub fn tables_go_by_rows()
         → AreByRows stores listed }
 {}
 
-/// The packet at a position of a store of the table is that of the record at this position among those
-/// that the store in its place of the directory keeps.
+/// The packet at a position of a store of the table is that of the record at this position, among
+/// those that the store in the same place of the directory keeps.
 pub fn packets_are_kept_records()
     ensures { (blocks : ℕ) (image : ℕ → List ℕ) (d : Directory) (table : Table) (at position : ℕ)
         (store : Store) (s : Listed) (records : List Meaning) (meaning : Meaning)
@@ -42,9 +42,9 @@ pub fn packets_are_kept_records()
         → packet_at store position ≡ meaning.packet }
 {}
 
-/// The row that `after_sent` returns for the pick of a directory can be put into it. The directory
-/// after that is of the table behind the grant, whatever number the grant has, and memory that shows
-/// the table before shows the one behind, with the same indexes.
+/// The row that `after_sent` returns for the pick of a directory can be put into it. The next
+/// directory is that of the table after the grant, whatever number the grant has. Memory that showed
+/// the table before the grant shows the one after it, with the same indexes.
 pub fn grants_go_on()
     ensures fits { (blocks : ℕ) (image : ℕ → List ℕ) (d : Directory) (table : Table) (pick : Pick)
         (row : Row) → Grants blocks image d table pick row
@@ -65,8 +65,8 @@ pub fn grants_go_on()
         → AreAllTogether after.directory.now.stores after.indexes.now }
 {}
 
-/// A time and a count of reports can be set in a directory. Memory that shows its table before shows
-/// it with this time and this count after that, with the same indexes.
+/// A time, and a count of reports below 16,384, can be set in a directory. Memory that showed its
+/// table then shows it with this time and this count, with the same indexes.
 pub fn clocks_are_shown()
     ensures fits { (d : Directory) (now reports : ℕ) → reports < 16384
         → (next : Directory) × (apply d (Clock now reports) ≡ Some next) }
@@ -79,9 +79,9 @@ pub fn clocks_are_shown()
         → AreAllTogether after.directory.now.stores after.indexes.now }
 {}
 
-/// The count behind reports can be set in a directory, at the time that it has. The directory after
-/// that is of the table behind these reports, and memory that shows the table before shows the one
-/// behind, with the same indexes.
+/// The count after some reports can be set in a directory, at the time that it has. The next directory
+/// is that of the table after these reports. Memory that showed the table before them shows the one
+/// after them, with the same indexes.
 pub fn counts_go_on()
     ensures fits { (d : Directory) (reports : ℕ)
         → (next : Directory) × (apply d (counted reports d) ≡ Some next) }
