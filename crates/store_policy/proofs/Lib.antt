@@ -1,2 +1,11 @@
+pub mod Added
+pub mod Agreements
+pub mod Between
+pub mod Blocks
+pub mod Copied
+pub mod CopyChecks
+pub mod Created
 pub mod Leaving
+pub mod Lookups
+pub mod Resized
 pub mod Stored

@@ -10,12 +10,12 @@ use Rattle.time_index.proofs.Entries.{cost}
 use Rattle.time_index.specs.TimeIndex.{pages_of}
 use Rattle.time_index.specs.declared.entry.Entry.{Entry}
 
-content-sum : (packets : List Stored) → content_in packets ≡ sum_by charge_of (map octets_in packets)
+pub content-sum : (packets : List Stored) → content_in packets ≡ sum_by charge_of (map octets_in packets)
 content-sum [] = refl
 content-sum (stored ∷ packets) =
     omega (arith, content-sum packets, sum_by-cons charge_of (octets_in stored) (map octets_in packets))
 
-pages-sum : (entries : List Entry) → pages_of entries ≡ sum_by charge_of (map length_of entries)
+pub pages-sum : (entries : List Entry) → pages_of entries ≡ sum_by charge_of (map length_of entries)
 pages-sum [] = refl
 pages-sum (entry ∷ entries) =
     omega (arith, pages-sum entries, sum_by-cons cost entry entries, sum_by-cons charge_of (length_of entry) (map length_of entries))

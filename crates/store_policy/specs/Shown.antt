@@ -1,8 +1,10 @@
 -- What is shown of the table of packet stores by rows and time indexes, which know no octets of packets.
-use Rattle.std.specs.Prelude.{◌≡◌, ℕ, List, length, map}
+use Rattle.std.specs.Prelude.{◌≡◌, ⊤, ℕ, List, [], ◌∷◌, length, map}
 use Rattle.pst_model.specs.Laws.{time_of}
-use Rattle.pst_model.specs.Table.{Store, Stored}
+use Rattle.pst_model.specs.Table.{Store, Stored, Table}
+use Rattle.store_directory.specs.Directory.{Listed}
 use Rattle.store_directory.specs.declared.row.Row.{Row}
+use Rattle.store_policy.specs.declared.view.View.{View}
 use Rattle.time_index.specs.TimeIndex.{TimeIndex, stamp_of}
 use Rattle.time_index.specs.declared.entry.Entry.{Entry}
 
@@ -37,3 +39,22 @@ pub record IsShown (store : Store) (row : Row) (index : TimeIndex) : Type 0 wher
   pub behind : store.behind ≡ row.behind
   pub range : store.range ≡ row.range
   pub packets : AreIndexed store.packets index.entries
+
+-- A store is shown by what a directory lists of it, and an index.
+pub record IsStoreShown (store : Store) (listed : Listed) (index : TimeIndex) : Type 0 where
+  pub shown : IsShown store listed.row index
+  pub patterns : store.patterns ≡ listed.patterns
+
+-- each store by the listed one and the index in its place
+abbrev pub AreShown : List Store → List Listed → List TimeIndex → Type 0
+AreShown [] [] [] = ⊤
+AreShown (store ∷ stores) (listed ∷ rest) (index ∷ indexes) =
+    IsStoreShown store listed index × AreShown stores rest indexes
+AreShown _ _ _ = ⊥
+
+-- A table is shown by what lies in memory.
+pub record IsTableShown (table : Table) (view : View) : Type 0 where
+  pub now : table.now ≡ view.directory.now.now
+  pub reports : table.reports ≡ view.directory.now.reports
+  pub forward : table.forward ≡ view.directory.now.forward
+  pub stores : AreShown table.stores view.directory.now.stores view.indexes.now

@@ -2,10 +2,19 @@
 //! for a new one, by its row and its time index, and why an instruction is refused.
 #![tactic(auto)]
 
+mod checks;
+mod copies;
+mod failures;
+mod flags;
+mod limits;
 mod plans;
 mod refusal;
+mod retrievals;
+mod sizes;
+mod types;
 mod view;
 
+pub use checks::check;
 pub use plans::{Full, plan_put};
 pub use refusal::Refusal;
 pub use view::View;
