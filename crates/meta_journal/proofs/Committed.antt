@@ -2,7 +2,7 @@
 use Rattle.std.proofs.Common.{◌≡◌, inl, inr, ℕ, ◌+◌, ◌*◌, ◌<◌, ◌≤◌, false, List, [], ◌∷◌, ◌++◌, Option, Some, unwrap_or, length, ◌∙◌, ap, arith}
 use Rattle.board.specs.Flash.{Flash, IsImage}
 use Rattle.board.proofs.Pages.{below_pages}
-use Rattle.commit_gate.specs.Commits.{IsBeforeOrAfter, IsCleanFrom, Stands, entry_pages, with_entry}
+use Rattle.commit_gate.specs.Commits.{IsBefore, IsBeforeOrAfter, IsCleanFrom, Stands, entry_pages, with_entry}
 use Rattle.commit_gate.specs.Entries.{Entry, HasEntries, area_of, length_in, octets_from, payload_pages, text_at}
 use Rattle.commit_gate.proofs.AreaEntries.{at_le, lawful_fits, stood_text, text_stood}
 use Rattle.commit_gate.proofs.AreaPages.{area_same, octets_same}
@@ -20,7 +20,7 @@ use Rattle.store_directory.specs.Options.{◌>>=◌}
 use Rattle.store_directory.proofs.Steps.{some_then}
 use Rattle.meta_journal.specs.Directories.{directory_by, directory_in}
 use Rattle.meta_journal.specs.Halves.{half_base, half_of}
-use Rattle.meta_journal.specs.Journals.{Holds, HoldsEither, IsJournal}
+use Rattle.meta_journal.specs.Journals.{Holds, HoldsBefore, HoldsEither, IsJournal}
 use Rattle.meta_journal.proofs.Filled.{half_reads}
 use Rattle.meta_journal.proofs.Holding.{image_holds}
 
@@ -40,7 +40,7 @@ directory_more blocks text entries entry before after is more =
     ap (λ (f : Option Checkpoint). f >>= λ c. fold_entries c.directory (entries ++ entry ∷ [])) spelled ∙ fold_more checkpoint.directory entries entry before after rest more
 
 -- the same text, where its pages are the same
-text_kept : (longest : ℕ) (area new : ℕ → List ℕ) (first : ℕ) (text : List ℕ) (next : ℕ) → text_at longest area first ≡ Entry text next
+pub text_kept : (longest : ℕ) (area new : ℕ → List ℕ) (first : ℕ) (text : List ℕ) (next : ℕ) → text_at longest area first ≡ Entry text next
     → ((q : ℕ) → first ≤ q → q < next → new q ≡ area q) → text_at longest new first ≡ Entry text next
 text_kept longest area new first text next e same =
     let stood = text_stood longest area first text next e in
@@ -82,48 +82,52 @@ module _ (blocks : ℕ) (flash : Flash) (root : Root) (d : Directory) (at : ℕ)
       (λ q lt. is.firm_pages (base + q) (omega arith) (journal.is_firm (base + q) (omega arith)))
       (image_stands blocks flash base journal.start journal.entries at (omega arith) journal.stands image is) journal.holds
 
-  module _ (entry : List ℕ) (after : Directory) (more : fold_entry d entry ≡ Some after) where
+  module _ (entry : List ℕ) where
     root_out : (k : ℕ) → k < 3 → entry_pages base at entry (256 * k) ≡ false
     root_out k lt = below_pages (base + at) (1 + payload_pages (length entry)) (256 * k) (omega arith)
 
     before_out : (q : ℕ) → q < at → entry_pages base at entry (base + q) ≡ false
     before_out q lt = below_pages (base + at) (1 + payload_pages (length entry)) (base + q) (omega arith)
 
-    pub commit_holds : (image : ℕ → List ℕ) → IsBeforeOrAfter blocks flash base journal.start journal.entries at entry image → HoldsEither blocks (entry_pages base at entry) flash d after image
-    commit_holds image (inl is) = inl (record {
+    pub before_holds : (image : ℕ → List ℕ) → IsBefore blocks flash base journal.start journal.entries at entry image → HoldsBefore blocks (entry_pages base at entry) flash d image
+    before_holds image is = record {
       elsewhere = is.elsewhere;
       holds = holds_these image journal.entries at d
           (λ k lt. page_left blocks (entry_pages base at entry) flash image (256 * k) (omega arith) (root_out k lt) (journal.rooted.firm_roots k lt) is.elsewhere)
           (λ q lt. page_left blocks (entry_pages base at entry) flash image (base + q) (omega arith) (before_out q lt) (journal.is_firm (base + q) (omega arith)) is.elsewhere)
           is.has journal.holds;
-    })
-    commit_holds image (inr is) = inr (record {
-      pages = is.pages;
-      elsewhere = is.elsewhere;
-      holds = holds_these image (journal.entries ++ entry ∷ []) (at + 1 + payload_pages (length entry)) after
-          (λ k lt. is.elsewhere (256 * k) (omega arith) (root_out k lt)) (λ q lt. is.elsewhere (base + q) (omega arith) (before_out q lt)) is.has
-          (directory_more blocks journal.text journal.entries entry d after journal.holds more);
-    })
-
-    -- the journal with the entry
-    pub journal_more : (new : Flash) → new ≡ with_entry base at entry flash → ((p : ℕ) → entry_pages base at entry p ≡ false → new.content p ≡ flash.content p)
-        → Stands new base journal.start (journal.entries ++ entry ∷ []) (at + 1 + payload_pages (length entry))
-        → IsCleanFrom new base (at + 1 + payload_pages (length entry)) → IsJournal blocks root after (at + 1 + payload_pages (length entry)) new
-    journal_more new is same stands clean = record {
-      own = journal.own;
-      rooted = record {
-        spelled = λ k lt. ap root_in (same (256 * k) (root_out k lt)) ∙ journal.rooted.spelled k lt;
-        firm_roots = λ k lt. ap (λ (f : Flash). f.loose (256 * k)) is;
-      };
-      text = journal.text;
-      start = journal.start;
-      checkpoint =
-          let le = at_le (area_of base flash.content) journal.start journal.entries at journal.stands.has in
-          text_kept 20476 (area_of base flash.content) (area_of base new.content) 0 journal.text journal.start journal.checkpoint
-          (λ q from to. area_same base flash.content new.content q (λ lt. same (base + q) (before_out q (omega arith))));
-      entries = journal.entries ++ entry ∷ [];
-      stands = stands;
-      holds = directory_more blocks journal.text journal.entries entry d after journal.holds more;
-      clean = clean;
-      is_firm = λ p lt. ap (λ (f : Flash). f.loose p) is;
     }
+
+    module _ (after : Directory) (more : fold_entry d entry ≡ Some after) where
+      pub commit_holds : (image : ℕ → List ℕ) → IsBeforeOrAfter blocks flash base journal.start journal.entries at entry image → HoldsEither blocks (entry_pages base at entry) flash d after image
+      commit_holds image (inl is) = inl (before_holds image is)
+      commit_holds image (inr is) = inr (record {
+        pages = is.pages;
+        elsewhere = is.elsewhere;
+        holds = holds_these image (journal.entries ++ entry ∷ []) (at + 1 + payload_pages (length entry)) after
+            (λ k lt. is.elsewhere (256 * k) (omega arith) (root_out k lt)) (λ q lt. is.elsewhere (base + q) (omega arith) (before_out q lt)) is.has
+            (directory_more blocks journal.text journal.entries entry d after journal.holds more);
+      })
+
+      -- the journal with the entry
+      pub journal_more : (new : Flash) → new ≡ with_entry base at entry flash → ((p : ℕ) → entry_pages base at entry p ≡ false → new.content p ≡ flash.content p)
+          → Stands new base journal.start (journal.entries ++ entry ∷ []) (at + 1 + payload_pages (length entry))
+          → IsCleanFrom new base (at + 1 + payload_pages (length entry)) → IsJournal blocks root after (at + 1 + payload_pages (length entry)) new
+      journal_more new is same stands clean = record {
+        own = journal.own;
+        rooted = record {
+          spelled = λ k lt. ap root_in (same (256 * k) (root_out k lt)) ∙ journal.rooted.spelled k lt;
+          firm_roots = λ k lt. ap (λ (f : Flash). f.loose (256 * k)) is;
+        };
+        text = journal.text;
+        start = journal.start;
+        checkpoint =
+            let le = at_le (area_of base flash.content) journal.start journal.entries at journal.stands.has in
+            text_kept 20476 (area_of base flash.content) (area_of base new.content) 0 journal.text journal.start journal.checkpoint
+            (λ q from to. area_same base flash.content new.content q (λ lt. same (base + q) (before_out q (omega arith))));
+        entries = journal.entries ++ entry ∷ [];
+        stands = stands;
+        holds = directory_more blocks journal.text journal.entries entry d after journal.holds more;
+        clean = clean;
+        is_firm = λ p lt. ap (λ (f : Flash). f.loose p) is;
+      }

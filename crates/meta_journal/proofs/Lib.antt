@@ -10,3 +10,5 @@ pub mod Committed
 pub mod Written
 pub mod Switched
 pub mod Staying
+pub mod Standing
+pub mod Folds

@@ -3,3 +3,4 @@ pub mod Directories
 pub mod Formats
 pub mod Shown
 pub mod Journals
+pub mod Standing

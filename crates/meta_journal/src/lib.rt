@@ -5,20 +5,20 @@
 mod committing;
 mod formatting;
 mod half;
+mod journal;
 mod laws;
 mod reading;
 mod switching;
 
-pub use committing::commit;
 pub use formatting::format;
+pub use half::half_of;
+pub use journal::Journal;
 pub use laws::{
-    advancing_keeps_the_directory, journals_hold_their_directory, other_blocks_may_change,
+    advancing_keeps_the_directory, choices_hold_directories, firm_journals_hold_the_directory,
+    halves_hold_one_entry_more, journals_hold_their_directory, other_blocks_may_change,
     other_pages_may_hold_anything, repairing_keeps_the_directory, rooted_images_hold_the_directory,
 };
 pub use reading::checkpoint_of;
-pub use switching::switch;
 
-#[cfg(test)]
-mod journal_tests;
 #[cfg(test)]
 mod tests;

@@ -6,7 +6,7 @@ ghost use Rattle.board.specs.Counts.{Rose};
 ghost use Rattle.board.specs.Meaning.{TellsFlash};
 ghost use Rattle.board.specs.Reads.{ReadsOnly};
 ghost use Rattle.commit_gate.specs.Entries.{Entry, area_of, payload_pages, text_at};
-ghost use Rattle.meta_journal.specs.Shown.{HasNoCheckpoint};
+ghost use Rattle.meta_journal.specs.Shown.{HasNoCheckpoint, pages_read};
 
 use board::{Board, Failed};
 use commit_gate::{Area, is_lawful, payload_pages, read_length, read_rest};
@@ -15,8 +15,8 @@ use commit_gate::{Area, is_lawful, payload_pages, read_length, read_rest};
 const LONGEST: u32 = 20_476;
 
 /// The text of a half's checkpoint, read into `buf`, which has at least 20,480 octets, and the page
-/// behind it. None: its length is 0 or above 20,476. At most 80 pages are read, each once, and one
-/// alone where there is no checkpoint. `Failed`: a read failed; `buf` then holds any octets.
+/// behind it. None: its length is 0 or above 20,476. Its own pages are read, each once and at
+/// most 80, and one alone where there is no checkpoint. `Failed`: a read failed; `buf` then holds any octets.
 pub fn checkpoint_of<'a, B: Board>(
     board: &mut B,
     area: Area,
@@ -31,7 +31,7 @@ pub fn checkpoint_of<'a, B: Board>(
         ≡ Entry read.0.now read.1)) }
     ensures range { IfOk result (λ found. IfSome found (λ read. (1 ≤ length read.0.now)
         × (length read.0.now ≤ 20476) × (read.1 ≡ payload_pages (length read.0.now)))) }
-    ensures reads { ReadsOnly B.means 80 board.old board.new }
+    ensures reads { ReadsOnly B.means (pages_read result) board.old board.new }
     ensures no_fault { OnOk result
         ((B.means.counts board.new).flash_faults ≡ (B.means.counts board.old).flash_faults) }
     ensures cause { OnErr result

@@ -67,5 +67,5 @@ returns-clause-journal g c told =
     subst (λ (n : ℕ). Rooted (first_root n) (means.flash new)) c.blocks-blocks.ensures (c.in_ok-plant.ensures.rooted (tells_too c.begin_half.ensures.touches.same told)) in
     let short = first_short blocks (g.met.B.Board.few_blocks old) in
     subst (IsJournal blocks (first_root blocks) first_directory (first_pages blocks)) (sym is)
-    (is_journal blocks (first_root blocks) (first_text blocks) first_directory (means.flash old) short.0 (omega (arith, short.1))
+    (is_journal (first_root blocks) (first_text blocks) (means.flash old) short.0 (omega (arith, short.1)) blocks first_directory
     (eq-eqb blocks blocks refl) (first_held blocks) (subst (Rooted (first_root blocks)) is rooted))

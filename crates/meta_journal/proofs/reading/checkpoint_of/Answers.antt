@@ -1,4 +1,6 @@
 use Rattle.std.proofs.Common.{◌≡◌, ℕ, ◌+◌, ◌-◌, ◌*◌, take, drop, sym, ◌∙◌, ap, arith}
+use Rattle.std.specs.Prelude.{◌≤◌, Option, Result, Ok, Err}
+use Rattle.std.specs.Result.{IsErrAnd}
 use Rattle.board.specs.Flash.{Flash}
 use Rattle.board.specs.Reads.{ReadsOnly}
 use Rattle.board.proofs.Reading.{reads_most, reads_on}
@@ -6,6 +8,7 @@ use Rattle.board.proofs.Works.{tells_too}
 use Rattle.commit_gate.specs.Entries.{area_of, is_lawful, length_in, octets_from, payload_pages, text_of}
 use Rattle.commit_gate.proofs.AreaEntries.{lawful_fits, stood_text}
 use Rattle.commit_gate.proofs.Buffers.{text_read}
+use Rattle.meta_journal.specs.Shown.{pages_read}
 use Rattle.meta_journal.proofs.reading.checkpoint_of.Given.{Over}
 use Rattle.meta_journal.proofs.reading.checkpoint_of.Goals as goal
 use Rattle.meta_journal.proofs.reading.checkpoint_of.Goals.{After-read_rest}
@@ -32,7 +35,7 @@ returns-clause-checkpoint g c told =
     })
 
 -- the reads
-reads : (g : Over) (c : After-read_rest g) → ReadsOnly g.B.Board.means 80 c.args.board.now c.read_rest.new.board
+reads : (g : Over) (c : After-read_rest g) → ReadsOnly g.B.Board.means c.payload_pages-pages.result c.args.board.now c.read_rest.new.board
 reads g c =
     let means = g.B.Board.means in
     let old = c.args.board.now in
@@ -41,8 +44,17 @@ reads g c =
     (reads_on means old c.read_length.new.board c.read_rest.new.board c.read_length.ensures.reads c.read_rest.ensures.reads)
     (omega (arith, fits.0, fits.1, c.payload_pages-pages.ensures))
 
+-- of a failure the most pages are allowed
+failed_most : {A E : Type 0} (answer : Result (Option (A × ℕ)) E) (P : E → Type 0) → IsErrAnd answer P → 80 ≤ pages_read answer
+failed_most (Ok found) P is = absurd is
+failed_most (Err fault) P is = omega arith
+
 pub returns-in_err-read_rest-clause-reads : goal.returns-in_err-read_rest-clause-reads
-returns-in_err-read_rest-clause-reads g c = reads g (goal.at.returns-in_err-read_rest-clause-reads g c).After-read_rest
+returns-in_err-read_rest-clause-reads g c =
+    let after = (goal.at.returns-in_err-read_rest-clause-reads g c).After-read_rest in
+    let fits = lawful_fits 20476 0 c.in_ok-length.length (sym c.is_lawful.ensures ∙ c.if-not-is_lawful.false) in
+    reads_most g.B.Board.means c.args.board.now c.read_rest.new.board (reads g after)
+    (let most = failed_most c.from_residual-in_err-read_rest.result (λ e. e ≡ c.in_err-read_rest.field-0.0) c.from_residual-in_err-read_rest.ensures.1 in omega (arith, fits.0, fits.1, c.payload_pages-pages.ensures, most))
 
 pub returns-clause-reads : goal.returns-clause-reads
 returns-clause-reads g c = reads g (goal.at.returns-clause-reads g c).After-read_rest

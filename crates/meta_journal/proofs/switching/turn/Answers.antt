@@ -1,4 +1,4 @@
-use Rattle.std.proofs.Common.{◌≡◌, ℕ, ◌*◌, [], Some, length, sym, ◌∙◌, ap, subst}
+use Rattle.std.proofs.Common.{◌≡◌, ℕ, ◌*◌, [], Some, length, refl, sym, ◌∙◌, ap, subst}
 use Rattle.board.specs.Device.{Device}
 use Rattle.board.specs.Flash.{Flash, IsImage, loosened}
 use Rattle.board.specs.Meaning.{TellsFlash}
@@ -12,8 +12,9 @@ use Rattle.meta_journal.specs.Directories.{directory_by}
 use Rattle.commit_gate.specs.Entries.{payload_pages}
 use Rattle.meta_journal.specs.Halves.{half_base, half_block, half_of, half_pages, with_checkpoint}
 use Rattle.meta_journal.specs.Journals.{FirmJournal, Holds, IsJournal, next_of}
+use Rattle.meta_journal.specs.Standing.{StandsFor, switched}
 use Rattle.meta_journal.proofs.Switched.{filling_holds, turning_holds}
-use Rattle.meta_journal.proofs.Written.{filled_rooted, is_journal}
+use Rattle.meta_journal.proofs.Written.{filled_rooted, is_journal, switched_stands}
 use Rattle.meta_journal.proofs.switching.turn.Given.{Over}
 use Rattle.meta_journal.proofs.switching.turn.Goals as goal
 use Rattle.meta_journal.proofs.switching.turn.Goals.{After-advance, After-begin_half}
@@ -71,22 +72,38 @@ returns-clause-any_moment g c told spelled still d held spells =
     let at = goal.at.returns-clause-any_moment g c in
     turned g at.After-advance told spelled still d held spells (begun g at.After-begin_half told spelled still d held spells)
 
-pub returns-clause-journal : goal.returns-clause-journal
-returns-clause-journal g c told own d spells =
+-- the flash in the end
+pub returns-clause-flash : goal.returns-clause-flash
+returns-clause-flash g c told =
     let means = g.B.Board.means in
     let old = c.args.board.now in
-    let root = c.args.root in
     let text = c.args.checkpoint.now in
-    let to = next_of root in
+    let to = next_of c.args.root in
     let a = c.begin_half.new.board in
-    let b = c.advance.new.board in
-    let told_a = tells_too c.begin_half.ensures.touches.same told in
     let is_to = c.next_root-to.ensures in
     let first_is : c.half_of.result.first ≡ half_block (half_of to) = c.half_of.ensures ∙ ap (λ (r : Root). half_block (half_of r)) is_to in
     let is_a : means.flash a ≡ with_checkpoint (half_block (half_of to)) text (means.flash old) =
     subst (λ (block : ℕ). means.flash a ≡ with_checkpoint block text (means.flash old)) first_is (c.in_ok-begin_half.ensures.flash told) in
-    let is_b : means.flash b ≡ with_roots to (with_checkpoint (half_block (half_of to)) text (means.flash old)) =
-    subst (λ (r : Root). means.flash b ≡ with_roots r (means.flash a)) is_to (c.in_ok-advance.ensures.flash told_a) ∙ ap (with_roots to) is_a in
-    let rooted : Rooted to (means.flash b) = subst (λ (r : Root). Rooted r (means.flash b)) is_to (c.in_ok-advance.ensures.rooted told_a) in
-    subst (IsJournal (means.device old).blocks to d (payload_pages (length text))) (sym is_b)
-    (is_journal (means.device old).blocks to text d (means.flash old) c.requires.shortest c.requires.longest own spells (subst (Rooted to) is_b rooted))
+    subst (λ (r : Root). means.flash c.advance.new.board ≡ with_roots r (means.flash a)) is_to (c.in_ok-advance.ensures.flash (tells_too c.begin_half.ensures.touches.same told)) ∙ ap (with_roots to) is_a
+
+pub returns-clause-stands : goal.returns-clause-stands
+returns-clause-stands g c told =
+    let means = g.B.Board.means in
+    let root = c.args.root in
+    let text = c.args.checkpoint.now in
+    let to = next_of root in
+    let is = returns-clause-flash g c told in
+    let rooted : Rooted to (means.flash c.advance.new.board) = subst (λ (r : Root). Rooted r (means.flash c.advance.new.board)) c.next_root-to.ensures (c.in_ok-advance.ensures.rooted (tells_too c.begin_half.ensures.touches.same told)) in
+    subst (StandsFor (switched (length text) root)) (sym is)
+    (switched_stands to text (means.flash c.args.board.now) c.requires.shortest c.requires.longest root refl (subst (Rooted to) is rooted))
+
+pub returns-clause-journal : goal.returns-clause-journal
+returns-clause-journal g c told own d spells =
+    let means = g.B.Board.means in
+    let blocks = (means.device c.args.board.now).blocks in
+    let text = c.args.checkpoint.now in
+    let to = next_of c.args.root in
+    let is = returns-clause-flash g c told in
+    let rooted : Rooted to (means.flash c.advance.new.board) = subst (λ (r : Root). Rooted r (means.flash c.advance.new.board)) c.next_root-to.ensures (c.in_ok-advance.ensures.rooted (tells_too c.begin_half.ensures.touches.same told)) in
+    subst (IsJournal blocks to d (payload_pages (length text))) (sym is)
+    (is_journal to text (means.flash c.args.board.now) c.requires.shortest c.requires.longest blocks d own spells (subst (Rooted to) is rooted))

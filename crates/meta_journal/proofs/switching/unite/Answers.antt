@@ -1,4 +1,4 @@
-use Rattle.std.proofs.Common.{◌≡◌, ◌*◌, Bool, refl, sym, ◌∙◌, ap, subst, arith}
+use Rattle.std.proofs.Common.{◌≡◌, ◌*◌, Bool, false, refl, sym, ◌∙◌, ap, subst, arith}
 use Rattle.std.specs.Prelude.{if◌then◌else◌}
 use Rattle.board.specs.Device.{Device}
 use Rattle.board.specs.Flash.{Flash, IsImage, firm, loosened}
@@ -12,6 +12,7 @@ use Rattle.root_vote.specs.Roots.{AreVotes, choice_of_votes}
 use Rattle.root_vote.specs.Rooted.{IsRepaired, is_root_block}
 use Rattle.store_directory.specs.Directory.{Directory}
 use Rattle.meta_journal.specs.Journals.{FirmJournal, Holds, repair_work}
+use Rattle.meta_journal.specs.Standing.{repair_barriers}
 use Rattle.meta_journal.proofs.Switched.{repair_holds, standing_holds, united_holds}
 use Rattle.meta_journal.proofs.switching.unite.Given.{Over}
 use Rattle.meta_journal.proofs.switching.unite.Goals as goal
@@ -97,8 +98,13 @@ touched g c =
     touching.touches_on means is_root_block is_root_block old a c.repair.new.board (λ p out. out)
     (touching.touches_more means is_root_block no_page old a (λ p out. refl) c.barrier.ensures.touches) c.repair.ensures.touches
 
+-- five barriers at most, and none where no page differs
+most : (g : Over) (c : After-repair g) → c.are_all.result ≡ false → Touches g.B.Board.means is_root_block (repair_work c.args.votes.now.votes c.args.root)
+    (repair_work c.args.votes.now.votes c.args.root) (repair_barriers c.args.votes.now.votes c.args.root) c.args.board.now c.repair.new.board
+most g c differ =
+    let work : repair_work c.args.votes.now.votes c.args.root ≡ 2 = ap (λ (t : Bool). if t then 0 else 2) (sym c.are_all.ensures ∙ differ) in
+    let barriers : repair_barriers c.args.votes.now.votes c.args.root ≡ 5 = ap (λ (t : Bool). if t then 0 else 5) (sym c.are_all.ensures ∙ differ) in
+    touching.touches_most g.B.Board.means (touched g c) (omega (arith, work)) (omega (arith, work)) (omega (arith, barriers))
+
 pub returns-in_err-repair-clause-touches : goal.returns-in_err-repair-clause-touches
-returns-in_err-repair-clause-touches g c =
-    let at = goal.at.returns-in_err-repair-clause-touches g c in
-    let work : repair_work c.args.votes.now.votes c.args.root ≡ 2 = ap (λ (t : Bool). if t then 0 else 2) (sym c.are_all.ensures ∙ c.if-are_all.false) in
-    touching.touches_most g.B.Board.means (touched g at.After-repair) (omega (arith, work)) (omega (arith, work)) (omega arith)
+returns-in_err-repair-clause-touches g c = most g (goal.at.returns-in_err-repair-clause-touches g c).After-repair c.if-are_all.false
