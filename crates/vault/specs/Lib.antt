@@ -1,0 +1,5 @@
+pub mod Answers
+pub mod Memory
+pub mod Loading
+pub mod Standing
+pub mod Opening
