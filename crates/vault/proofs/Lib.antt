@@ -4,3 +4,6 @@ pub mod Loads
 pub mod Tables
 pub mod Sound
 pub mod Stands
+pub mod Positions
+pub mod Spelled
+pub mod Fetched

@@ -2,6 +2,7 @@
 use Rattle.std.proofs.Common.{◌≡◌, ℕ, ◌≤◌, true, List, ◌++◌, length, take, ◌∙◌, ap, arith}
 use Rattle.std.proofs.lemmas.List.{take-append-le}
 use Rattle.block_pool.specs.Blocks.{blocks_of, is_free}
+use Rattle.store_directory.specs.Directory.{IsDirectory}
 use Rattle.store_load.specs.Claims.{may_share}
 use Rattle.vault.proofs.EachStores.{as_many_indexes, each_gives}
 use Rattle.vault.proofs.Places.{take_whole}
@@ -9,15 +10,16 @@ use Rattle.vault.proofs.Tables.{shared_parts}
 use Rattle.vault.specs.Loading.{IsLoadedStore}
 use Rattle.vault.specs.Memory.{EachStore, InMemory, IsSound, IsSoundStore, is_unlinked}
 
-pub sound_of : (told : Type 0) (image : ℕ → List ℕ) (vault : InMemory) → 16 ≤ vault.blocks → vault.blocks ≤ 512
+pub sound_of : (told : Type 0) (image : ℕ → List ℕ) (vault : InMemory) → 16 ≤ vault.blocks → vault.blocks ≤ 512 → IsDirectory vault.directory.directory
     → EachStore (IsLoadedStore told image vault.directory.now) vault.directory.stores vault.indexes vault.lasts
     → may_share 240 vault.blocks vault.directory.stores ≡ true → blocks_of vault.pool ≡ vault.blocks
     → ((block : ℕ) → is_free vault.pool block ≡ is_unlinked vault.blocks vault.directory.stores block) → IsSound vault
-sound_of told image vault least most stores share pool free =
+sound_of told image vault least most kept stores share pool free =
     let now = vault.directory.now in
     record {
       least = least;
       most = most;
+      kept = kept;
       stores =
           each_gives (IsLoadedStore told image now) (IsSoundStore now)
           (λ s index last loaded.

@@ -3,3 +3,5 @@ pub mod Memory
 pub mod Loading
 pub mod Standing
 pub mod Opening
+pub mod Fetching
+pub mod Lending

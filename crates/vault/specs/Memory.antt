@@ -3,8 +3,9 @@ use Rattle.std.specs.Prelude.{◌≡◌, ◌≤◌, ⊤, ℕ, ◌+◌, ◌&&◌,
 use Rattle.block_pool.specs.Blocks.{Blocks, blocks_of, is_free}
 use Rattle.image_table.specs.Table.{table_rule}
 use Rattle.meta_journal.specs.Standing as journals
+use Rattle.record_view.specs.Records.{Meaning}
 use Rattle.record_view.specs.declared.link.Link.{Link}
-use Rattle.store_directory.specs.Directory.{Listed, is_new, reserved_by}
+use Rattle.store_directory.specs.Directory.{IsDirectory, Listed, is_new, reserved_by}
 use Rattle.store_directory.specs.Kept.{Kept}
 use Rattle.store_load.specs.Claims.{all_links, block_of, may_share}
 use Rattle.store_load.specs.InRange.{IsInRange}
@@ -24,6 +25,8 @@ pub record InMemory : Type 0 where
   pub journal : journals.Kept
   -- how many blocks the device has
   pub blocks : ℕ
+  -- the record that was fetched last
+  pub held : Meaning
   pub is_open : Bool
 
 -- P holds of each store, with the index and the last block in its place
@@ -48,6 +51,7 @@ is_unlinked blocks stores block =
 pub record IsSound (vault : InMemory) : Type 0 where
   pub least : 16 ≤ vault.blocks
   pub most : vault.blocks ≤ 512
+  pub kept : IsDirectory vault.directory.directory
   pub stores : EachStore (IsSoundStore vault.directory.now) vault.directory.stores vault.indexes
       vault.lasts
   pub as_many : length vault.indexes ≡ length vault.directory.stores

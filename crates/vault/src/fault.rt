@@ -36,3 +36,18 @@ pub(crate) fn fault_of_load(stop: LoadStop) -> OpenFault
         LoadStop::NoMemory => OpenFault::NoMemory,
     }
 }
+
+/// Why a call of an open table failed. The table is closed then.
+#[derive(Clone, Copy, Debug, PartialEq, Eq)]
+pub enum VaultFault {
+    /// A call of the flash failed.
+    Flash,
+    /// What was kept of a record is not what is found at its place: of its number, its length, the
+    /// version of a packet (kept as 0) and the packet's own length, the first that differs.
+    Mismatch {
+        block: u32,
+        page: u32,
+        kept: u32,
+        found: u32,
+    },
+}

@@ -3,11 +3,13 @@
 #![tactic(auto)]
 
 mod fault;
+mod fetching;
+mod held_record;
 mod last_block;
 mod loading;
 mod opening;
 mod pool;
 mod vault;
 
-pub use fault::OpenFault;
+pub use fault::{OpenFault, VaultFault};
 pub use vault::Vault;

@@ -18,6 +18,7 @@ ghost use Rattle.vault.specs.Opening.{IsLoadedVault};
 ghost use Rattle.vault.specs.Standing.{StandsFor};
 
 use crate::fault::{OpenFault, fault_of_read};
+use crate::held_record::HeldRecord;
 use crate::loading::{Stores, load_stores};
 use crate::pool::{claimed, pool_of};
 use crate::vault::Vault;
@@ -26,24 +27,28 @@ use board::Board;
 use journal_reader::{Opened, read_journal};
 use std::alloc::{AllocError, Global};
 
-// The octets of a block, and the erase counts of a device of so many blocks.
-fn room_for(alloc: Global, blocks: u32) -> Result<(Vec<u8>, Vec<u32>), AllocError>
+// The octets of a block, the erase counts of a device of so many blocks, and a record.
+fn room_for(
+    alloc: Global,
+    blocks: u32,
+) -> Result<(Vec<u8>, Vec<u32>, HeldRecord), AllocError>
     ensures octets { IfOk result (λ room. length room.0.items ≡ 65536) }
     ensures counts { IfOk result (λ room. length room.1.items ≡ blocks) }
 {
     let octets = vec![in alloc; 0; 65_536]?;
     let counts = vec![in alloc; 0; blocks as usize]?;
-    Ok((octets, counts))
+    Ok((octets, counts, HeldRecord::new(alloc)?))
 }
 
-// A vault of a journal that was read. `wear` has the erase count of each block, and `octets` is a
-// buffer of 65,536.
+// A vault of a journal that was read. `wear` has the erase count of each block, and `octets` and
+// `held` are its buffers, of a block and of a record.
 fn open_stores<B: Board>(
     alloc: Global,
     board: &mut B,
     opened: Opened,
     wear: &[u32],
     mut octets: Vec<u8>,
+    held: HeldRecord,
 ) -> Result<Vault, OpenFault>
     requires blocks { length wear.now ≡ (B.means.device board.old).blocks }
     requires room { length octets.items ≡ 65536 }
@@ -77,6 +82,7 @@ fn open_stores<B: Board>(
             journal,
             blocks: wear.len() as u32,
             buffer: octets,
+            held,
             alloc,
             is_open: true,
         }),
@@ -119,11 +125,11 @@ impl Vault {
             (B.means.counts board.new).flash_faults) }
     {
         let blocks = board.blocks();
-        let Ok((mut octets, mut counts)) = room_for(alloc, blocks) else {
+        let Ok((mut octets, mut counts, held)) = room_for(alloc, blocks) else {
             return Err(OpenFault::NoMemory);
         };
         match read_journal(alloc, board, &mut octets, &mut counts) {
-            Ok(Some(opened)) => open_stores(alloc, board, opened, &counts, octets),
+            Ok(Some(opened)) => open_stores(alloc, board, opened, &counts, octets, held),
             Ok(None) => Err(OpenFault::NotHeld),
             Err(stop) => Err(fault_of_read(stop)),
         }

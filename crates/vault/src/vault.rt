@@ -5,6 +5,7 @@
 ghost use Rattle.std.specs.Prelude.{◌≡◌, ◌<◌, ◌≤◌, length, slice_get, true, IfSome};
 ghost use Rattle.vault.specs.Memory.{IsSound, IsViewOf};
 
+use crate::held_record::HeldRecord;
 use crate::last_block::LastBlock;
 use block_pool::Pool;
 use meta_journal::Journal;
@@ -27,6 +28,7 @@ pub struct Vault {
     pub(crate) blocks: u32,
     // of 65,536 octets: those of a block
     pub(crate) buffer: Vec<u8>,
+    pub(crate) held: HeldRecord,
     pub(crate) alloc: Global,
     pub(crate) is_open: bool,
 }
@@ -44,6 +46,7 @@ impl Model for Vault {
       pool = v.pool;
       journal = v.journal;
       blocks = v.blocks;
+      held = v.held;
       is_open = v.is_open;
     } };
 
@@ -54,6 +57,7 @@ impl Model for Vault {
       pool = v.pool;
       journal = v.journal;
       blocks = v.blocks;
+      held = v.held;
       is_open = v.is_open;
     })) };
 }

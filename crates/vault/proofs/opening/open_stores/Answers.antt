@@ -44,6 +44,7 @@ whole : (g : Over) (c : goal.In-Ok-load_stores g) → IsSound (record {
   pool = c.in-Some.pool;
   journal = c.args.opened.journal;
   blocks = length c.args.wear.now;
+  held = c.args.held;
   is_open = true;
 })
 whole g c =
@@ -54,6 +55,7 @@ whole g c =
     sound_of (TellsFlash means old) (means.flash old).content _
     (subst (λ (n : ℕ). 16 ≤ n) (sym c.requires.blocks) (g.met.B.Board.enough_blocks old))
     (subst (λ (n : ℕ). n ≤ 512) (sym c.requires.blocks) (g.met.B.Board.few_blocks old))
+    c.in-Ok-load_stores.ensures.kept
     c.in-Ok-load_stores.ensures.loaded
     (ap (λ n. may_share 240 n stores) (sym many) ∙ c.in-Some.ensures.share)
     (ap length c.in-Some.ensures.wear ∙ many)
