@@ -7,3 +7,5 @@ pub mod Stands
 pub mod Positions
 pub mod Spelled
 pub mod Fetched
+pub mod Formats
+pub mod Images

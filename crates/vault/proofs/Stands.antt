@@ -1,6 +1,6 @@
 -- A vault that was loaded stands for the table of the flash.
 use Rattle.std.proofs.Common.{◌≡◌, ℕ, Bool, true, false, List, [], ◌∷◌, ◌++◌, length, take, Option, Some, None, Result, Ok, Err, sym, ◌∙◌, ap, subst, arith}
-use Rattle.std.specs.Prelude.{IfOk}
+use Rattle.std.specs.Prelude.{IfOk, OnOk}
 use Rattle.std.proofs.lemmas.Bool.{false≢true}
 use Rattle.std.proofs.lemmas.List.{take-append-le}
 use Rattle.board.specs.Flash.{Flash, IsContent}
@@ -31,6 +31,10 @@ use Rattle.vault.specs.declared.fault.OpenFault.TheVariants as faults
 pub if_ok : {A E : Type 0} (r : Result A E) (P Q : A → Type 0) → IfOk r P → ((x : A) → P x → Q x) → IfOk r Q
 if_ok (Ok x) P Q h f = f x h
 if_ok (Err e) P Q h f = tt
+
+pub ok_gives : {A E : Type 0} (r : Result A E) (P Q : Type 0) → OnOk r P → (P → Q) → OnOk r Q
+ok_gives (Ok x) P Q h f = f h
+ok_gives (Err e) P Q h f = tt
 
 pub none_held : {A : Type 0} (r : Result A OpenFault) (P Q : Type 0) → OnNotHeld r P → (P → Q) → OnNotHeld r Q
 none_held (Ok x) P Q h f = tt

@@ -4,12 +4,15 @@
 
 mod fault;
 mod fetching;
+mod formatting;
 mod held_record;
 mod last_block;
+mod laws;
 mod loading;
 mod opening;
 mod pool;
 mod vault;
 
 pub use fault::{OpenFault, VaultFault};
+pub use laws::{images_hold_the_table, tables_are_one};
 pub use vault::Vault;
