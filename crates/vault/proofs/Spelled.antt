@@ -65,11 +65,13 @@ module _ (image : ℕ → List ℕ) where
   spell_at n at [] records entry all is = absurd (none-some entry is)
   spell_at n at (e ∷ entries) [] entry all is = absurd all
   spell_at n zero (e ∷ entries) (m ∷ records) entry all is =
-      let same = same_Some e entry is in
-      (m, refl,
-      subst (λ (k : ℕ). record_at (block_octets image entry.block) (k % 4294967296) entry.page ≡ Some m) (omega arith)
-      (subst (λ (e : Entry). record_at (block_octets image e.block) (n % 4294967296) e.page ≡ Some m) same all.0),
-      subst (λ (e : Entry). e.length ≡ length m.packet) same all.1)
+      let same = same_Some e entry is in (
+        m,
+        refl,
+        subst (λ (k : ℕ). record_at (block_octets image entry.block) (k % 4294967296) entry.page ≡ Some m) (omega arith)
+            (subst (λ (e : Entry). record_at (block_octets image e.block) (n % 4294967296) e.page ≡ Some m) same all.0),
+        subst (λ (e : Entry). e.length ≡ length m.packet) same all.1,
+      )
   spell_at n (suc at) (e ∷ entries) (m ∷ records) entry all is =
       let (found, here, there, long) = spell_at (suc n) at entries records entry all.2 is in
       (found, here, subst (λ (k : ℕ). record_at (block_octets image entry.block) (k % 4294967296) entry.page ≡ Some found) (omega arith) there, long)
@@ -124,9 +126,12 @@ indexed_by rule image now row links index records is kept =
     let made : index_by rule now row links are.reads ≡ Some index =
     sym (λ i. (given (are.begins i) >>= λ (_ : ⊤). (are.read i) >>= index_by rule now row links)) ∙ is in
     let parts = given_then (may_keep rule now row.size are.reads (live_of row links are.reads))
-    (λ (_ : ⊤). Some (index_with row (drop (dead_by row.first links) (placed_all (extents_of row links) are.reads)))) index made in
-    (are.reads, are.read,
-    same_Some (index_with row (drop (dead_by row.first links) (placed_all (extents_of row links) are.reads))) index parts.1, are.live)
+    (λ (_ : ⊤). Some (index_with row (drop (dead_by row.first links) (placed_all (extents_of row links) are.reads)))) index made in (
+      are.reads,
+      are.read,
+      same_Some (index_with row (drop (dead_by row.first links) (placed_all (extents_of row links) are.reads))) index parts.1,
+      are.live,
+    )
 
 -- The record at a position of an index is spelled at its place, under its number.
 pub spelled_there : (rule : Rule) (blocks : ℕ) (image : ℕ → List ℕ) (now : ℕ) (row : Row) (links : List Link) (index : TimeIndex) (records : List Meaning)
@@ -139,9 +144,12 @@ spelled_there rule blocks image now row links index records position entry own l
     let (reads, read, made, live) = indexed_by rule image now row links index records is kept in
     let same_entries : index.entries ≡ drop (dead_by row.first links) (placed_all (extents_of row links) reads) = ap (λ (i : TimeIndex). i.entries) (sym made) in
     let same_first : index.first ≡ row.first = ap (λ (i : TimeIndex). i.first) (sym made) in
-    let (m, at_m, there, long) = by_links links reads own read (sym (ap (λ (l : List Entry). slice_get l position) same_entries) ∙ here) in
-    (m, sym (ap (λ (l : List Meaning). slice_get l position) live) ∙ at_m,
-    subst (λ (n : ℕ). record_at (block_octets image entry.block) ((n + position) % 4294967296) entry.page ≡ Some m) (sym same_first) there, long)
+    let (m, at_m, there, long) = by_links links reads own read (sym (ap (λ (l : List Entry). slice_get l position) same_entries) ∙ here) in (
+      m,
+      sym (ap (λ (l : List Meaning). slice_get l position) live) ∙ at_m,
+      subst (λ (n : ℕ). record_at (block_octets image entry.block) ((n + position) % 4294967296) entry.page ≡ Some m) (sym same_first) there,
+      long,
+    )
   where
     by_links : (others : List Link) (reads : List (List Meaning)) → All (IsLinkOf blocks) others
         → each (read_extent image) (extents_of row others) ≡ Some reads

@@ -99,12 +99,7 @@ impl Vault {
     }
 
     // Loads the record at a position of a store, and holds it.
-    fn load<B: Board>(
-        &mut self,
-        board: &mut B,
-        at: u32,
-        position: u32,
-    ) -> Result<(), VaultFault>
+    fn load<B: Board>(&mut self, board: &mut B, at: u32, position: u32) -> Result<(), VaultFault>
         requires is_open { self.old.is_open ≡ true }
         requires blocks { self.old.blocks ≡ (B.means.device board.old).blocks }
         requires within { IsPosition self.old at position }

@@ -16,3 +16,10 @@ mod vault;
 pub use fault::{OpenFault, VaultFault};
 pub use laws::{images_hold_the_table, tables_are_one};
 pub use vault::Vault;
+
+#[cfg(test)]
+mod fetch_tests;
+#[cfg(test)]
+mod image_writer;
+#[cfg(test)]
+mod open_tests;

@@ -28,10 +28,7 @@ use journal_reader::{Opened, read_journal};
 use std::alloc::{AllocError, Global};
 
 // The octets of a block, the erase counts of a device of so many blocks, and a record.
-fn room_for(
-    alloc: Global,
-    blocks: u32,
-) -> Result<(Vec<u8>, Vec<u32>, HeldRecord), AllocError>
+fn room_for(alloc: Global, blocks: u32) -> Result<(Vec<u8>, Vec<u32>, HeldRecord), AllocError>
     ensures octets { IfOk result (λ room. length room.0.items ≡ 65536) }
     ensures counts { IfOk result (λ room. length room.1.items ≡ blocks) }
 {
