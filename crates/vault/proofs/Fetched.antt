@@ -1,5 +1,5 @@
 -- The record at a position of a store, and the packet of the table there.
-use Rattle.std.proofs.Common.{◌≡◌, ℕ, zero, suc, ◌+◌, ◌%◌, ◌<◌, List, [], ◌∷◌, All, length, map, Option, Some, None, Err, refl, sym, ◌∙◌, ap, subst, arith}
+use Rattle.std.proofs.Common.{◌≡◌, ℕ, zero, suc, List, [], ◌∷◌, length, map, Option, Some, Err, refl, sym, ◌∙◌, ap, subst, arith}
 use Rattle.std.specs.Prelude.{slice_get}
 use Rattle.std.specs.Option.{IsSomeAnd, option_map}
 use Rattle.std.proofs.lemmas.Option.{none-some, same_Some, slice_get-map, slice_get_within}
@@ -13,18 +13,15 @@ use Rattle.image_table.specs.Table.{store_of, stored_of, table_by, table_of, tab
 use Rattle.meta_journal.specs.Directories.{directory_of}
 use Rattle.pst_model.specs.Table.{Store, Stored, Table}
 use Rattle.record_view.specs.Records.{Meaning, record_at}
-use Rattle.record_view.specs.declared.link.Link.{Link}
-use Rattle.store_directory.specs.Directory.{Directory, IsListed, Listed}
+use Rattle.store_directory.specs.Directory.{Directory, IsListed}
 use Rattle.store_directory.specs.Options.{◌>>=◌}
 use Rattle.store_load.specs.Each.{each}
-use Rattle.store_load.specs.Keeping.{IsLinkOf}
 use Rattle.store_load.proofs.Eachs.{each_cons}
 use Rattle.time_index.specs.TimeIndex.{TimeIndex}
-use Rattle.time_index.specs.declared.entry.Entry.{Entry}
 use Rattle.vault.proofs.EachStores.{each_store_at}
 use Rattle.vault.proofs.Loads.{all_at, own_at}
 use Rattle.vault.proofs.Places.{some_at}
-use Rattle.vault.proofs.Positions.{and_some, some_and}
+use Rattle.vault.proofs.Positions.{IsThere, and_some, some_and}
 use Rattle.vault.proofs.Spelled.{spelled_there}
 use Rattle.vault.specs.Fetching.{HasPacket, Holds, IsRecordAt, KeepsRecord, vault_fault_of}
 use Rattle.vault.specs.Memory.{InMemory, IsSound}
@@ -71,11 +68,11 @@ pub found_there : (vault : InMemory) (flash : Flash) (table : Table) (at positio
 found_there vault flash table at position place number stands sound there =
     let d = vault.directory.directory in
     let content = flash.content in
-    let (index, is, at_index) = and_some
-    (λ (index : TimeIndex). IsSomeAnd (slice_get index.entries position) (λ (entry : Entry).
-    (place ≡ record { block = entry.block; page = entry.page; length = entry.length }) × (number ≡ (index.first + position) % 4294967296)))
+    let (index, is, at_index) = and_some (λ (index : TimeIndex). IsSomeAnd (slice_get index.entries position) (IsThere position place number index))
     (slice_get vault.indexes at) there in
-    let (entry, here, same_place, same_number) = at_entry index at_index in
+    let (entry, here, parts) = and_some (IsThere position place number index) (slice_get index.entries position) at_index in
+    let at_place : Place = record { block = entry.block; page = entry.page; length = entry.length } in
+    let same_place : at_place ≡ place = sym parts.0 in
     let within = slice_get_within vault.indexes at index is in
     let (s, listed) = some_at d.stores at (omega (arith, within, sound.as_many)) in
     let P = IsStoreOf flash d.now in
@@ -90,22 +87,11 @@ found_there vault flash table at position place number stands sound there =
     record {
       meaning = m;
       spelled =
-          subst (λ (p : Place). record_at (block_octets content p.block) number p.page ≡ Some m) (sym same_place)
-          (subst (λ (n : ℕ). record_at (block_octets content entry.block) n entry.page ≡ Some m) (sym same_number) spelled);
-      long = sym long ∙ ap (λ (p : Place). p.length) (sym same_place);
+          subst (λ (p : Place). record_at (block_octets content p.block) number p.page ≡ Some m) {x = at_place} same_place
+          (subst (λ (n : ℕ). record_at (block_octets content entry.block) n entry.page ≡ Some m) (sym parts.1) spelled);
+      long = sym long ∙ ap (λ (p : Place). p.length) {x = at_place} same_place;
       has = packet_of table at position store records m is_store (ap (λ (x : Store). x.packets) (sym whole)) at_m;
     }
-  where
-    at_entry : (index : TimeIndex)
-        → IsSomeAnd (slice_get index.entries position) (λ (entry : Entry).
-        (place ≡ record { block = entry.block; page = entry.page; length = entry.length }) × (number ≡ (index.first + position) % 4294967296))
-        → (entry : Entry) × (slice_get index.entries position ≡ Some entry)
-        × (place ≡ record { block = entry.block; page = entry.page; length = entry.length }) × (number ≡ (index.first + position) % 4294967296)
-    at_entry index h =
-        let (entry, here, parts) = and_some (λ (entry : Entry).
-        (place ≡ record { block = entry.block; page = entry.page; length = entry.length }) × (number ≡ (index.first + position) % 4294967296))
-        (slice_get index.entries position) h in
-        (entry, here, parts.0, parts.1)
 
 -- nothing differs
 pub err_holds : (table : Table) (at position : ℕ) (meaning held : Meaning) (fault : LoadFault) → KeepsRecord {A = ℕ} meaning (Err fault) held

@@ -1,9 +1,9 @@
 -- The table after a format.
-use Rattle.std.proofs.Common.{◌≡◌, ℕ, ◌≤◌, ◌&&◌, nat_le, Bool, true, List, Some, refl, ap, ◌∙◌, arith, le-leb}
+use Rattle.std.proofs.Common.{◌≡◌, ℕ, ◌≤◌, ◌&&◌, Bool, true, List, Some, refl, ap, arith, le-leb}
 use Rattle.image_table.proofs.Frames.{loads_table}
 use Rattle.image_table.proofs.Standing.{table_here}
 use Rattle.image_table.specs.Standing.{HoldsTable}
-use Rattle.image_table.specs.Table.{store_of, table_by}
+use Rattle.image_table.specs.Table.{store_of}
 use Rattle.meta_journal.specs.Directories.{directory_of}
 use Rattle.pst_model.specs.Table.{after_format}
 use Rattle.store_directory.specs.Changes.{apply}

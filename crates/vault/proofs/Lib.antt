@@ -8,4 +8,5 @@ pub mod Positions
 pub mod Spelled
 pub mod Fetched
 pub mod Formats
-pub mod Images
+pub mod Stopped
+pub mod FreeBlocks

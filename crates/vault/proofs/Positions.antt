@@ -1,5 +1,5 @@
 -- The place of the record at a position of a store.
-use Rattle.std.proofs.Common.{◌≡◌, ℕ, zero, suc, ◌+◌, ◌%◌, ◌<◌, ◌≤◌, Bool, true, false, List, [], ◌∷◌, All, length, Option, Some, None, refl, sym, ◌∙◌, ap, subst, arith}
+use Rattle.std.proofs.Common.{◌≡◌, ℕ, zero, suc, ◌+◌, ◌%◌, ◌<◌, Bool, true, false, List, [], ◌∷◌, All, Option, Some, None, refl, sym, ◌∙◌, ap, subst, arith}
 use Rattle.std.specs.Prelude.{if◌then◌else◌, slice_get}
 use Rattle.std.specs.Option.{IsSomeAnd}
 use Rattle.std.proofs.lemmas.List.Elements.{All-head, All-tail}
@@ -9,7 +9,6 @@ use Rattle.chain_log.specs.declared.place.Place.{Place}
 use Rattle.image_table.specs.Table.{table_rule}
 use Rattle.record_view.specs.Records.{number_after}
 use Rattle.record_view.specs.declared.link.Link.{Link}
-use Rattle.store_directory.specs.Directory.{Listed}
 use Rattle.store_directory.specs.Rows.{is_by}
 use Rattle.store_load.specs.InRange.{AreInBlocks, AreInLinks, IsPlaced, block_for}
 use Rattle.store_load.specs.Keeping.{IsInDevice}
@@ -74,16 +73,14 @@ place_there vault at position index entry sound is here =
     }
 
 -- a record's place and number, by its index and its entry
+abbrev pub IsThere : (position : ℕ) (place : Place) (number : ℕ) → TimeIndex → Entry → Type 0
+IsThere position place number index entry =
+    (place ≡ record { block = entry.block; page = entry.page; length = entry.length }) × (number ≡ (index.first + position) % 4294967296)
+
 pub record_there_is : (vault : InMemory) (at position : ℕ) (index : TimeIndex) (entry : Entry) (place : Place) (number : ℕ)
     → slice_get vault.indexes at ≡ Some index → slice_get index.entries position ≡ Some entry
     → place ≡ record { block = entry.block; page = entry.page; length = entry.length } → number ≡ (index.first + position) % 4294967296
     → IsRecordAt vault at position place number
 record_there_is vault at position index entry place number is here same_place same_number =
-    some_and
-    (λ (index : TimeIndex). IsSomeAnd (slice_get index.entries position) (λ (entry : Entry). IsThere index entry))
-    (slice_get vault.indexes at) index is
-    (some_and (IsThere index) (slice_get index.entries position) entry here (same_place, same_number))
-  where
-    IsThere : TimeIndex → Entry → Type 0
-    IsThere index entry =
-        (place ≡ record { block = entry.block; page = entry.page; length = entry.length }) × (number ≡ (index.first + position) % 4294967296)
+    some_and (λ (index : TimeIndex). IsSomeAnd (slice_get index.entries position) (IsThere position place number index)) (slice_get vault.indexes at) index is
+    (some_and (IsThere position place number index) (slice_get index.entries position) entry here (same_place, same_number))

@@ -14,7 +14,9 @@ mod pool;
 mod vault;
 
 pub use fault::{OpenFault, VaultFault};
-pub use laws::{images_hold_the_table, tables_are_one};
+pub use laws::{
+    fetches_keep_the_table, free_blocks_are_beside_the_table, images_hold_the_table, tables_are_one,
+};
 pub use vault::Vault;
 
 #[cfg(test)]

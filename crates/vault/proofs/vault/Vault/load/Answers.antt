@@ -1,7 +1,6 @@
-use Rattle.std.proofs.Common.{◌≡◌, ℕ, Err, sym, ◌∙◌, ap, subst, rules}
-use Rattle.board.specs.Flash.{Flash}
+use Rattle.std.proofs.Common.{ℕ, Err, sym, ◌∙◌, ap, subst}
 use Rattle.record_view.specs.Records.{Meaning}
-use Rattle.vault.specs.Fetching.{HasPacket, Holds, KeepsRecord}
+use Rattle.vault.specs.Fetching.{HasPacket, Holds}
 use Rattle.vault.specs.Memory.{InMemory, IsSound}
 use Rattle.vault.specs.declared.fault.VaultFault.{VaultFault}
 use Rattle.vault.proofs.Fetched.{err_holds, found_there}

@@ -1,11 +1,10 @@
-use Rattle.std.proofs.Common.{◌≡◌, ◌<◌, ◌+◌, ◌%◌, ℕ, List, length, Some, slice_get, refl, sym, ◌∙◌, ap, subst}
+use Rattle.std.proofs.Common.{◌≡◌, ◌<◌, ◌+◌, ◌%◌, ℕ, List, length, Some, slice_get, sym, ◌∙◌, ap, subst}
 use Rattle.std.proofs.lemmas.Option.{slice_get-get_or, slice_get_within}
 use Rattle.chain_log.specs.Loaded.{IsPlace}
 use Rattle.chain_log.specs.declared.place.Place.{Place}
 use Rattle.time_index.specs.TimeIndex.{TimeIndex}
-use Rattle.time_index.specs.declared.entry.Entry.{Entry}
 use Rattle.vault.specs.Memory.{InMemory, IsSound}
-use Rattle.vault.proofs.Positions.{and_some, place_there, record_there_is, some_and}
+use Rattle.vault.proofs.Positions.{and_some, place_there, record_there_is}
 use Rattle.vault.proofs.vault.Vault.record_at.Goals as goal
 
 indexes_are : (c : goal.After-first) → c.deref-indexes.result.now ≡ c.args.self.now.indexes
