@@ -1,0 +1,12 @@
+pub mod Places
+pub mod EachStores
+pub mod Loads
+pub mod Tables
+pub mod Sound
+pub mod Stands
+pub mod Positions
+pub mod Spelled
+pub mod Fetched
+pub mod Formats
+pub mod Stopped
+pub mod FreeBlocks

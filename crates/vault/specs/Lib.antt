@@ -1,0 +1,7 @@
+pub mod Answers
+pub mod Memory
+pub mod Loading
+pub mod Standing
+pub mod Opening
+pub mod Fetching
+pub mod Lending

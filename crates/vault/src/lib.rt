@@ -1,0 +1,27 @@
+//! The durable table of the packet stores, as it is opened: what of it lies in memory, and the
+//! records that lie in the flash.
+#![tactic(auto)]
+
+mod fault;
+mod fetching;
+mod formatting;
+mod held_record;
+mod last_block;
+mod laws;
+mod loading;
+mod opening;
+mod pool;
+mod vault;
+
+pub use fault::{OpenFault, VaultFault};
+pub use laws::{
+    fetches_keep_the_table, free_blocks_are_beside_the_table, images_hold_the_table, tables_are_one,
+};
+pub use vault::Vault;
+
+#[cfg(test)]
+mod fetch_tests;
+#[cfg(test)]
+mod image_writer;
+#[cfg(test)]
+mod open_tests;
