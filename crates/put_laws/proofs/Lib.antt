@@ -6,3 +6,6 @@ pub mod Replaced
 pub mod Applies
 pub mod Turns
 pub mod Staying
+pub mod Contents
+pub mod Telling
+pub mod Taking
