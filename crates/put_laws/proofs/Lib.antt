@@ -9,3 +9,5 @@ pub mod Staying
 pub mod Contents
 pub mod Telling
 pub mod Taking
+pub mod FewLinks
+pub mod Beginning

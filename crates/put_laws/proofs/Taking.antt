@@ -69,7 +69,7 @@ module _ (blocks : ℕ) (image : ℕ → List ℕ) (d : Directory) (table : Tabl
   pub now_is : d.now ≡ stored.time
   now_is = ap (λ (t : Table). t.now) (loaded blocks image d table stored at s store turn).whole
 
-  abbrev meaning : Meaning
+  abbrev pub meaning : Meaning
   meaning = record { number = end_of s.row; stamp = stored.time; packet = stored.octets }
 
   pub loads_taken : (link : Link) (links : List Link) → s.links ≡ link ∷ links

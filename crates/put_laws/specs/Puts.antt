@@ -1,5 +1,5 @@
 -- What an arriving packet does to one store: the changes of its directory, and what its blocks spell.
-use Rattle.std.specs.Prelude.{◌≡◌, ◌≤◌, ℕ, ◌+◌, Bool, true, false, ◌&&◌, List, [], ◌∷◌, length, map, Some}
+use Rattle.std.specs.Prelude.{◌≡◌, ◌≤◌, ◌<◌, ◌^◌, ℕ, ◌+◌, Bool, true, false, ◌&&◌, List, [], ◌∷◌, length, map, Some}
 use Rattle.space_packet.specs.Charge.{charge_of}
 use Rattle.chain_log.specs.Pages.{block_octets}
 use Rattle.pst_model.specs.Arrivals.{is_offered}
@@ -87,6 +87,7 @@ IsFull image row (link ∷ links) = 240 ≤ used_by image row link links
 pub record SpellsFirst (blocks : ℕ) (image : ℕ → List ℕ) (d : Directory) (s : Listed) (link : Link)
     (stored : Stored) : Type 0 where
   pub own : is_data blocks link ≡ true
+  pub numbered : link.block < 2 ^ 16
   pub unnamed : is_unnamed link.block d ≡ true
   pub first : link.first ≡ end_of s.row
   pub full : IsFull image s.row s.links
