@@ -11,3 +11,5 @@ pub mod Telling
 pub mod Taking
 pub mod FewLinks
 pub mod Beginning
+pub mod Ending
+pub mod Indexed

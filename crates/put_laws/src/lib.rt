@@ -1,7 +1,16 @@
-//! What an arriving packet makes of the directory of the stores and of its table, store by store.
-//! Nothing here computes for the program: the crates above cite it.
+//! What an arriving packet makes of the directory of the stores, of its table and of the time
+//! indexes, store by store (ECSS-E-ST-70-41C, 6.15.3). Nothing here computes for the program: the
+//! crates above cite it.
 #![tactic(auto)]
 
+mod indexing;
 mod walking;
 
-pub use walking::walks_begin;
+pub use indexing::{
+    indexed_tables_are_shown, indexes_go_on, rows_and_indexes_stay_together,
+    shown_tables_are_indexed,
+};
+pub use walking::{
+    walks_begin, walks_begin_blocks, walks_end, walks_pass_stores, walks_stay_beside,
+    walks_take_packets, walks_tell_refusals,
+};
