@@ -1,5 +1,5 @@
 -- Puts and links of a store that stands fit its directory.
-use Rattle.std.proofs.Common.{◌≡◌, ℕ, ◌+◌, ◌-◌, ◌≤◌, Bool, true, ◌&&◌, nat_le, List, [], ◌∷◌, ◌++◌, length, map, drop, length-append, Option, Some, refl, sym, ◌∙◌, ap, subst, arith}
+use Rattle.std.proofs.Common.{◌≡◌, ℕ, ◌+◌, ◌-◌, ◌≤◌, true, nat_le, List, [], ◌∷◌, ◌++◌, length, map, length-append, Option, Some, refl, sym, ◌∙◌, ap, subst, arith}
 use Rattle.std.specs.List.{All}
 use Rattle.std.proofs.lemmas.Bool.{le-leb}
 use Rattle.std.proofs.lemmas.List.{length-drop}
@@ -7,8 +7,8 @@ use Rattle.std.proofs.lemmas.List.Elements.{All-append, All-cons, All-drop, All-
 use Rattle.block_pool.specs.Sizes.{blocks_for_size}
 use Rattle.record_view.specs.declared.link.Link.{Link}
 use Rattle.store_directory.specs.Changes.{Change, Links, Put, apply, change_store, listed_by, put_row, with_links}
-use Rattle.store_directory.specs.Directory.{Directory, FitsLink, IsDirectory, IsListed, Listed, find_store, identifiers, is_new, put_store, trimmed, with_stores}
-use Rattle.store_directory.specs.Options.{◌>>=◌, given}
+use Rattle.store_directory.specs.Directory.{Directory, FitsLink, IsDirectory, IsListed, Listed, find_store, is_new, put_store, with_stores}
+use Rattle.store_directory.specs.Options.{◌>>=◌}
 use Rattle.store_directory.specs.Rows.{FitsRow, is_lawful_row}
 use Rattle.store_directory.specs.declared.row.Row.{Row}
 use Rattle.store_directory.proofs.Applied.{with-some}

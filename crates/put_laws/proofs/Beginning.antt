@@ -1,34 +1,32 @@
 -- A store that takes the packet into a new block.
-use Rattle.std.proofs.Common.{◌≡◌, ℕ, zero, suc, ◌+◌, ◌-◌, ◌%◌, ◌==◌, ◌<◌, ◌≤◌, ◌^◌, ◌&&◌, nat_le, nat_lt, Bool, true, List, [], ◌∷◌, ◌++◌, length, map, drop, Option, Some, eqb-true, refl, sym, ◌∙◌, ap, subst, arith}
+use Rattle.std.proofs.Common.{◌≡◌, ℕ, suc, ◌+◌, ◌<◌, ◌≤◌, true, List, [], ◌∷◌, ◌++◌, length, drop, Some, eqb-true, refl, sym, ◌∙◌, ap, subst, arith}
 use Rattle.std.specs.Prelude.{slice_get}
 use Rattle.std.specs.List.{All}
-use Rattle.std.proofs.lemmas.Bool.{and_parts}
-use Rattle.std.proofs.lemmas.Bool.Decides.{nat_tests}
 use Rattle.std.proofs.lemmas.List.Elements.{All-cons, All-nil}
 use Rattle.block_pool.specs.Sizes.{blocks_for_size}
 use Rattle.chain_log.specs.Pages.{block_octets}
 use Rattle.pst_model.specs.Arrivals.{offered}
 use Rattle.pst_model.specs.Table.{Store, Stored, Table}
-use Rattle.record_view.specs.Records.{Meaning, record_at}
+use Rattle.record_view.specs.Records.{record_at}
 use Rattle.record_view.specs.declared.link.Link.{Link}
-use Rattle.store_directory.specs.Changes.{Change, Links, Put, apply}
+use Rattle.store_directory.specs.Changes.{Change, Links, Put}
 use Rattle.store_directory.specs.Directory.{Directory, FitsLink, Listed, is_new, with_stores}
 use Rattle.store_directory.specs.Entries.{FitsChange}
 use Rattle.store_directory.specs.Rows.{between}
 use Rattle.store_directory.specs.declared.row.Row.{Row}
 use Rattle.store_directory.proofs.Lawful.{lawful-from_kept}
-use Rattle.store_load.specs.Claims.{is_data, may_share}
+use Rattle.store_load.specs.Claims.{may_share}
 use Rattle.store_load.specs.Kept.{begins_well}
 use Rattle.store_load.specs.Extents.{end_of, extent_to, last_of, read_extent}
 use Rattle.store_load.specs.Frame.{pages_read}
-use Rattle.store_load.specs.Moving.{last_extent, used_by}
+use Rattle.store_load.specs.Moving.{used_by}
 use Rattle.store_load.proofs.Counting.{kept_parts}
 use Rattle.store_load.proofs.Records.{records_none}
 use Rattle.image_table.specs.Going.{table_put, with_row}
 use Rattle.image_table.specs.Going as going
-use Rattle.image_table.specs.Table.{stored_of, table_by, table_rule}
+use Rattle.image_table.specs.Table.{table_by, table_rule}
 use Rattle.image_table.proofs.Puts.{block_linked, first_put}
-use Rattle.put_laws.specs.Puts.{Accepts, Begins, IsFull, SpellsAt, SpellsFirst, changes_of_put, is_unnamed, need_of, row_behind_put}
+use Rattle.put_laws.specs.Puts.{Accepts, Begins, IsFull, SpellsAt, SpellsFirst, changes_of_put, is_unnamed, row_behind_put}
 use Rattle.put_laws.specs.Walks.{HasGoneOn, HasOffered, IsTurn, table_at}
 use Rattle.put_laws.proofs.Applies.{Fits, found, links_fit_in, links_name_one, new_linked, new_put, put_fits_in, put_names_none}
 use Rattle.put_laws.proofs.Contents.{few, keeps_is, room, taken_row, taking}
@@ -142,7 +140,7 @@ module _ (blocks : ℕ) (image : ℕ → List ℕ) (d : Directory) (table : Tabl
               (ap (λ (l : List Link). l ++ new ∷ []) some) spelled;
           left = left_taken blocks image middle table stored at linked store turn_linked gone accepts ∙ left_linked;
           unnamed = λ block unnamed other.
-          unnamed_taken blocks image middle table stored at linked store turn_linked gone accepts block (unnamed_linked block unnamed other);
+              unnamed_taken blocks image middle table stored at linked store turn_linked gone accepts block (unnamed_linked block unnamed other);
         }
 
   -- as the first block
@@ -216,9 +214,9 @@ module _ (blocks : ℕ) (image : ℕ → List ℕ) (d : Directory) (table : Tabl
           loads = loads_first;
           left = left_in middle.stores there.front linked new_first there.back at refl there.long ∙ left_linked;
           unnamed = λ block unnamed other.
-          put_names_none blocks middle linked_fits.directory linked_fits.share there.front linked there.back refl row refl refl
-          (row_lawful blocks image d table stored at s store turn gone accepts) (row_fits blocks image d table stored at s store turn gone accepts)
-          block (unnamed_linked block unnamed other);
+              put_names_none blocks middle linked_fits.directory linked_fits.share there.front linked there.back refl row refl refl
+              (row_lawful blocks image d table stored at s store turn gone accepts) (row_fits blocks image d table stored at s store turn gone accepts)
+              block (unnamed_linked block unnamed other);
         }
 
   pub begins_block : (links : List Link) → s.links ≡ links → Step blocks image d table stored at s (Begins gone new)

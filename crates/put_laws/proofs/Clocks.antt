@@ -1,20 +1,17 @@
 -- A walk begins with the clock.
-use Rattle.std.proofs.Common.{◌≡◌, ℕ, ◌+◌, ◌%◌, ◌<◌, ◌≤◌, ◌^◌, Bool, true, ◌&&◌, nat_lt, List, [], ◌∷◌, ◌++◌, length, Some, refl, sym, ◌∙◌, ap, subst, arith}
-use Rattle.std.specs.Prelude.{⊤, flat_map, take, drop, map}
+use Rattle.std.proofs.Common.{◌≡◌, ℕ, ◌<◌, ◌≤◌, ◌^◌, List, [], ◌∷◌, Some, refl, arith}
 use Rattle.std.proofs.lemmas.Bool.{lt-ltb}
 use Rattle.std.proofs.lemmas.List.Elements.{All-cons, All-nil}
 use Rattle.board.specs.Flash.{IsContent}
-use Rattle.pst_model.specs.Arrivals.{offer_report}
-use Rattle.pst_model.specs.Table.{Store, Stored, Table}
-use Rattle.store_directory.specs.Changes.{Clock, apply, apply_all}
+use Rattle.pst_model.specs.Table.{Stored, Table}
+use Rattle.store_directory.specs.Changes.{Clock, apply}
 use Rattle.store_directory.specs.Directory.{Directory, IsDirectory}
 use Rattle.store_directory.specs.Entries.{FitsChange}
-use Rattle.store_directory.specs.Options.{◌>>=◌, given}
 use Rattle.store_directory.proofs.Lawful.{lawful-from_kept}
 use Rattle.image_table.specs.Table.{table_by}
 use Rattle.image_table.proofs.Frames.{table_loads}
 use Rattle.image_table.proofs.Puts.{clock_goes}
-use Rattle.put_laws.specs.Walks.{HasOffered, clock_of, reports_behind, table_at}
+use Rattle.put_laws.specs.Walks.{HasOffered, clock_of, reports_behind}
 
 clock_applies : (d : Directory) (now reports : ℕ) → reports < 16384 → apply d (Clock now reports) ≡ Some (record d { now = now; reports = reports })
 unfolding apply

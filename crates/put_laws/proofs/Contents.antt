@@ -1,9 +1,7 @@
 -- The room of the store whose turn it is.
-use Rattle.std.proofs.Common.{◌≡◌, ℕ, zero, suc, ◌+◌, ◌-◌, ◌<◌, ◌≤◌, ◌&&◌, ◌||◌, nat_le, nat_lt, Bool, true, false, List, [], ◌∷◌, ◌++◌, length, map, drop, refl, sym, ◌∙◌, ap, subst, arith}
-use Rattle.std.specs.Prelude.{if◌then◌else◌}
+use Rattle.std.proofs.Common.{◌≡◌, ℕ, zero, suc, ◌+◌, ◌-◌, ◌≤◌, ◌&&◌, ◌||◌, nat_lt, Bool, true, false, List, [], ◌∷◌, ◌++◌, length, drop, refl, sym, ◌∙◌, ap, subst, arith}
 use Rattle.std.proofs.lemmas.Bool.{cond-false, cond-true, cond_both, leb-true, ltb-false}
 use Rattle.std.proofs.lemmas.List.{length-drop, length-map}
-use Rattle.space_packet.specs.Charge.{charge_of}
 use Rattle.pst_model.specs.Arrivals.{is_offered, offered}
 use Rattle.pst_model.specs.Least.{least}
 use Rattle.pst_model.specs.Rules.{Refused, Taken, behind_put, free_of, has_room, is_bounded, is_refused, put, to_drop, with_last}

@@ -1,6 +1,6 @@
 -- A walk on other images, and its end.
-use Rattle.std.proofs.Common.{◌≡◌, ℕ, ◌+◌, ◌≤◌, Bool, true, false, ◌==◌, List, [], ◌∷◌, ◌++◌, append-nil, length, map, drop, take, Option, Some, refl, sym, ◌∙◌, ap, arith}
-use Rattle.std.specs.Prelude.{flat_map, if◌then◌else◌, max}
+use Rattle.std.proofs.Common.{◌≡◌, ℕ, ◌≤◌, true, false, ◌==◌, List, [], ◌++◌, append-nil, length, map, drop, Option, Some, sym, ◌∙◌, ap}
+use Rattle.std.specs.Prelude.{max}
 use Rattle.std.proofs.lemmas.Bool.{cond-false}
 use Rattle.std.proofs.lemmas.List.{drop_all, take_all}
 use Rattle.board.specs.Flash.{IsContent}
@@ -13,7 +13,7 @@ use Rattle.pst_model.specs.Table.{Store, Stored, Table}
 use Rattle.space_packet.specs.Packet.{apid_of}
 use Rattle.store_directory.specs.Changes.{Change, apply_all}
 use Rattle.store_directory.specs.Directory.{Directory}
-use Rattle.store_directory.specs.Entries.{changes_in, entry_octets}
+use Rattle.store_directory.specs.Entries.{entry_octets}
 use Rattle.store_directory.specs.Folds.{fold_entry}
 use Rattle.store_directory.specs.Options.{◌>>=◌}
 use Rattle.store_directory.proofs.WrittenChanges.{changes_in-octets}

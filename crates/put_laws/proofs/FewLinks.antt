@@ -1,5 +1,5 @@
 -- A store whose blocks are all full has room for one more.
-use Rattle.std.proofs.Common.{◌≡◌, ℕ, zero, suc, ◌+◌, ◌*◌, ◌/◌, ◌-◌, ◌<◌, ◌≤◌, ◌&&◌, nat_le, nat_lt, Bool, true, false, not, List, [], ◌∷◌, ◌++◌, append-nil, length, drop, Some, refl, sym, ◌∙◌, ap, subst, arith}
+use Rattle.std.proofs.Common.{◌≡◌, ℕ, suc, ◌+◌, ◌*◌, ◌-◌, ◌≤◌, ◌&&◌, nat_le, nat_lt, true, not, List, [], ◌∷◌, ◌++◌, append-nil, length, drop, sym, ◌∙◌, ap, subst, arith}
 use Rattle.std.proofs.lemmas.Bool.{leb-true, not-true}
 use Rattle.std.proofs.lemmas.List.Elements.{All-head, All-tail}
 use Rattle.block_pool.specs.Sizes.{blocks_for_size}
@@ -7,13 +7,12 @@ use Rattle.record_view.specs.Records.{Meaning}
 use Rattle.record_view.specs.declared.link.Link.{Link}
 use Rattle.store_directory.specs.Rows.{between, is_by}
 use Rattle.store_directory.specs.declared.row.Row.{Row}
-use Rattle.store_load.specs.Each.{each}
 use Rattle.store_load.specs.Extents.{end_of, extent_to, extents_from, joined, last_read, pages_in, read_extent}
 use Rattle.store_load.specs.Keeping.{IsLinkOf, Keeps}
-use Rattle.store_load.specs.Kept.{are_filled, begins_well}
+use Rattle.store_load.specs.Kept.{are_filled}
 use Rattle.store_load.specs.Frame.{pages_read}
 use Rattle.store_load.specs.Moving.{used_by}
-use Rattle.store_load.proofs.Counting.{KeptAre, extents_length, first_by, kept_parts}
+use Rattle.store_load.proofs.Counting.{extents_length, first_by, kept_parts}
 use Rattle.store_load.proofs.Eachs.{each_cons, each_length, one, two}
 use Rattle.store_load.proofs.Full.{few_dead}
 use Rattle.store_load.proofs.More.{last_spelled}
@@ -49,9 +48,9 @@ module _ (blocks : ℕ) (image : ℕ → List ℕ) (now : ℕ) (row : Row) where
       let own_next = All-head (IsLinkOf blocks) next links (All-tail (IsLinkOf blocks) link (next ∷ links) keeps.each_link) in
       let within = extent_within blocks image keeps.pages (extent_to next.first link) first own.block is in
       let past = not-true (is_by next.first row.first)
-          (two (nat_lt 0 row.count && is_by link.first row.first) (not (is_by next.first row.first)) are.begins) in
+      (two (nat_lt 0 row.count && is_by link.first row.first) (not (is_by next.first row.first)) are.begins) in
       let dead = few_dead row.first link.first next.first (length first) own.first own_next.first keeps.first
-          (first_by row link (next ∷ links) are.begins) past (sym long) (omega (arith, within, few_records first)) in
+      (first_by row link (next ∷ links) are.begins) past (sym long) (omega (arith, within, few_records first)) in
       let live : drop (between link.first row.first) (first ++ joined rest) ≡ records =
       ap (λ (l : List (List Meaning)). drop (between link.first row.first) (joined l)) whole ∙ are.live in
       let pages = live_pages (between link.first row.first) first (joined rest) (omega (arith, dead)) in

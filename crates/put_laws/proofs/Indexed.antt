@@ -1,20 +1,19 @@
 -- Indexes while a packet is offered to stores.
-use Rattle.std.proofs.Common.{◌≡◌, ℕ, zero, suc, ◌+◌, ◌-◌, ◌%◌, ◌≤◌, ◌^◌, Bool, true, false, List, [], ◌∷◌, ◌++◌, length, map, drop, take, slice_set, Option, Some, None, length-append, refl, sym, ◌∙◌, ap, subst, arith}
+use Rattle.std.proofs.Common.{◌≡◌, ℕ, suc, ◌+◌, ◌%◌, ◌^◌, false, List, [], ◌∷◌, ◌++◌, length, map, drop, slice_set, Some, length-append, sym, ◌∙◌, ap, subst, arith}
 use Rattle.std.specs.Prelude.{slice_get}
 use Rattle.std.proofs.lemmas.List.{drop-map, length-drop, length-map, map-append}
-use Rattle.std.proofs.lemmas.Option.{none-some, same_Some}
+use Rattle.std.proofs.lemmas.Option.{same_Some}
 use Rattle.image_table.specs.Table.{store_of, store_with, table_by}
 use Rattle.image_table.proofs.Frames.{store_kept, table_loads}
 use Rattle.pst_model.specs.Arrivals.{is_offered, offered}
 use Rattle.pst_model.specs.Laws.{time_of}
-use Rattle.pst_model.specs.Rules.{with_last}
-use Rattle.pst_model.specs.Table.{Store, Stored, Table, drop_front}
+use Rattle.pst_model.specs.Table.{Store, Stored, Table}
 use Rattle.record_view.specs.Records.{Meaning}
-use Rattle.store_directory.specs.Directory.{Directory, Listed}
+use Rattle.store_directory.specs.Directory.{Listed}
 use Rattle.store_directory.specs.declared.row.Row.{Row}
 use Rattle.store_load.specs.Each.{each}
 use Rattle.store_load.proofs.Eachs.{each_cons}
-use Rattle.store_policy.specs.Shown.{AreIndexed, AreShown, AreTogether, IsShown, IsStoreShown, IsTableShown, length_of, octets_in}
+use Rattle.store_policy.specs.Shown.{AreIndexed, AreShown, AreTogether, IsStoreShown, IsTableShown, length_of, octets_in}
 use Rattle.store_policy.specs.declared.view.View.{View}
 use Rattle.time_index.specs.TimeIndex.{TimeIndex, stamp_of}
 use Rattle.time_index.specs.declared.entry.Entry.{Entry}

@@ -13,3 +13,4 @@ pub mod FewLinks
 pub mod Beginning
 pub mod Ending
 pub mod Indexed
+pub mod NewPages

@@ -1,11 +1,11 @@
 -- A directory with another store in the place of one of them.
-use Rattle.std.proofs.Common.{◌≡◌, ℕ, zero, suc, ◌+◌, ◌≤◌, Bool, true, false, not, ◌&&◌, nat_le, List, [], ◌∷◌, ◌++◌, length, map, drop, length-append, refl, sym, ◌∙◌, ap, subst, arith}
+use Rattle.std.proofs.Common.{◌≡◌, ℕ, ◌+◌, ◌≤◌, Bool, true, ◌&&◌, nat_le, List, [], ◌∷◌, ◌++◌, length, map, length-append, refl, sym, ◌∙◌, ap, subst, arith}
 use Rattle.std.specs.List.{All, list_all}
 use Rattle.std.proofs.lemmas.Bool.{and_from, and_parts, le-leb}
 use Rattle.std.proofs.lemmas.List.Elements.{All-cons, All-head, All-tail}
 use Rattle.block_pool.specs.Sizes.{blocks_for_size}
 use Rattle.record_view.specs.declared.link.Link.{Link}
-use Rattle.store_directory.specs.Directory.{AreListed, Directory, IsDirectory, IsListed, Listed, are_distinct, identifiers, is_new, reserved_by, with_stores}
+use Rattle.store_directory.specs.Directory.{Directory, IsDirectory, IsListed, Listed, are_distinct, identifiers, is_new, reserved_by, with_stores}
 use Rattle.store_directory.proofs.Reserved.{reserved-append}
 use Rattle.store_load.specs.Claims.{all_links, are_apart, block_of, is_within, may_share, reserved_at}
 use Rattle.put_laws.specs.Puts.{is_unnamed}

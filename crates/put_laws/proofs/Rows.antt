@@ -1,7 +1,6 @@
 -- The rows behind a put are lawful.
-use Rattle.std.proofs.Common.{◌≡◌, ℕ, ◌+◌, ◌-◌, ◌%◌, ◌<◌, ◌≤◌, ◌^◌, ◌&&◌, nat_le, nat_lt, Bool, true, false, Option, Some, None, refl, sym, ◌∙◌, ap, arith}
+use Rattle.std.proofs.Common.{◌≡◌, ℕ, ◌+◌, ◌-◌, ◌<◌, ◌≤◌, ◌^◌, ◌&&◌, nat_le, nat_lt, true, Option, Some, None, refl, arith}
 use Rattle.std.proofs.lemmas.Bool.{and_from, and_parts, cond_both, le-leb, leb-true}
-use Rattle.std.proofs.lemmas.Bool.Decides.{nat_tests}
 use Rattle.pst_model.specs.Table.{range_behind}
 use Rattle.store_directory.specs.Rows.{FitsRow, is_lawful_row, is_range, range_end, range_next}
 use Rattle.store_directory.specs.declared.row.Row.{Row}

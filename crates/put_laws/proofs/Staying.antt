@@ -1,15 +1,13 @@
 -- A store that stays as it is.
-use Rattle.std.proofs.Common.{◌≡◌, ℕ, Bool, true, false, List, [], ◌∷◌, Some, refl, sym, ◌∙◌, ap, subst, arith}
-use Rattle.std.specs.Prelude.{if◌then◌else◌}
+use Rattle.std.proofs.Common.{◌≡◌, ℕ, true, false, List, Some, refl, sym, ◌∙◌, ap}
 use Rattle.std.proofs.lemmas.Bool.{cond-false, cond-true}
 use Rattle.std.proofs.lemmas.List.Elements.{All-nil}
 use Rattle.pst_model.specs.Arrivals.{is_offered, offered}
-use Rattle.pst_model.specs.Rules.{Put, Refused, Taken, behind_put, free_of, is_refused, put, to_drop, with_last}
+use Rattle.pst_model.specs.Rules.{Refused, Taken, behind_put, free_of, is_refused, put, to_drop, with_last}
 use Rattle.pst_model.specs.Table.{Store, Stored, Table, drop_front}
 use Rattle.store_directory.specs.Changes.{Change}
 use Rattle.store_directory.specs.Directory.{Directory, Listed}
 use Rattle.store_directory.specs.Entries.{FitsChange}
-use Rattle.image_table.specs.Table.{table_by}
 use Rattle.put_laws.specs.Puts.{Refuses, Stays, need_of}
 use Rattle.put_laws.specs.Walks.{HasGoneOn, HasOffered, IsTurn}
 use Rattle.put_laws.proofs.Turns.{Turn, kept_is, same_next, turn_of, walked}

@@ -1,10 +1,9 @@
 -- A store that takes the packet into its last block.
-use Rattle.std.proofs.Common.{◌≡◌, ℕ, suc, ◌+◌, ◌-◌, ◌%◌, ◌<◌, ◌≤◌, ◌^◌, Bool, true, List, [], ◌∷◌, ◌++◌, length, drop, Option, Some, refl, sym, ◌∙◌, ap, subst, arith}
+use Rattle.std.proofs.Common.{◌≡◌, ℕ, suc, ◌+◌, ◌≤◌, true, List, [], ◌∷◌, ◌++◌, length, drop, Some, refl, sym, ◌∙◌, ap, subst, arith}
 use Rattle.std.specs.Prelude.{find}
 use Rattle.std.proofs.lemmas.List.Elements.{All-cons, All-nil}
 use Rattle.std.proofs.lemmas.Option.{same_Some}
 use Rattle.space_packet.specs.Charge.{charge_of}
-use Rattle.pst_model.specs.Arrivals.{offered}
 use Rattle.pst_model.specs.Changes.{is_named}
 use Rattle.pst_model.specs.Table.{Store, Stored, Table, content_in}
 use Rattle.record_view.specs.Records.{Meaning}
@@ -85,7 +84,7 @@ module _ (blocks : ℕ) (image : ℕ → List ℕ) (d : Directory) (table : Tabl
       record { since = omega (arith, now_is); by = omega (arith, now_is); short = accepts.short } in
       let space = room blocks image d table stored at s store turn gone accepts in
       let has_space : (x : Store) → find (is_named s.identifier) (offered_to stored at table.stores) ≡ Some x
-          → content_in (drop gone x.packets) + charge_of (length stored.octets) ≤ s.size = λ x is.
+      → content_in (drop gone x.packets) + charge_of (length stored.octets) ≤ s.size = λ x is.
       subst (λ (y : Store). content_in (drop gone y.packets) + need_of stored ≤ s.size)
       (same_Some store x (sym (found_is blocks image d table stored at s store turn) ∙ is)) space in
       let loads =

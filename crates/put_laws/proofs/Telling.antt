@@ -1,16 +1,14 @@
 -- A store that tells a refusal.
-use Rattle.std.proofs.Common.{◌≡◌, ℕ, suc, ◌+◌, ◌-◌, ◌%◌, ◌<◌, ◌≤◌, ◌^◌, Bool, true, List, [], ◌∷◌, ◌++◌, append-nil, length, drop, Option, Some, refl, sym, ◌∙◌, ap, subst, arith}
+use Rattle.std.proofs.Common.{◌≡◌, ℕ, ◌≤◌, true, List, [], ◌∷◌, ◌++◌, append-nil, drop, Some, refl, sym, ◌∙◌, ap, subst, arith}
 use Rattle.std.specs.Prelude.{find}
 use Rattle.std.proofs.lemmas.List.Elements.{All-cons, All-nil}
 use Rattle.std.proofs.lemmas.Option.{same_Some}
-use Rattle.pst_model.specs.Arrivals.{offered}
 use Rattle.pst_model.specs.Changes.{is_named}
 use Rattle.pst_model.specs.Table.{Store, Stored, Table, content_in}
 use Rattle.record_view.specs.Records.{Meaning}
 use Rattle.store_directory.specs.Changes.{Change, Put}
 use Rattle.store_directory.specs.Directory.{Directory, Listed, with_stores}
 use Rattle.store_directory.specs.Entries.{FitsChange}
-use Rattle.store_directory.specs.declared.row.Row.{Row}
 use Rattle.store_directory.proofs.Lawful.{lawful-from_kept}
 use Rattle.store_load.specs.Moving.{GoesOn}
 use Rattle.image_table.specs.Going.{with_row}
@@ -78,5 +76,5 @@ module _ (blocks : ℕ) (image : ℕ → List ℕ) (d : Directory) (table : Tabl
             (told_store s records store whole ∙ sym (refusal stored store refuses)));
         left = left_in before.stores there.front s new there.back at there.parted there.long;
         unnamed = λ block unnamed other.
-        put_names_none blocks before walk.directory share there.front s there.back there.parted row refl refl listed.lawful row_fits block unnamed;
+            put_names_none blocks before walk.directory share there.front s there.back there.parted row refl refl listed.lawful row_fits block unnamed;
       })

@@ -1,5 +1,5 @@
 -- The store whose turn it is, in the directory and in the table.
-use Rattle.std.proofs.Common.{◌≡◌, ℕ, zero, suc, ◌+◌, ◌<◌, ◌≤◌, Bool, true, List, [], ◌∷◌, ◌++◌, length, map, drop, take, Option, Some, None, refl, sym, ◌∙◌, ap, subst, arith}
+use Rattle.std.proofs.Common.{◌≡◌, ℕ, suc, ◌+◌, true, List, [], ◌∷◌, ◌++◌, length, map, drop, Some, refl, sym, ◌∙◌, ap, subst, arith}
 use Rattle.std.specs.Prelude.{find, slice_get}
 use Rattle.std.specs.Option.{option_and_then}
 use Rattle.std.specs.List.{All}
@@ -14,7 +14,7 @@ use Rattle.pst_model.specs.Rules.{at_first}
 use Rattle.pst_model.specs.Table.{Store, Stored, Table}
 use Rattle.record_view.specs.Records.{Meaning}
 use Rattle.store_directory.specs.Changes.{Change, apply_all}
-use Rattle.store_directory.specs.Directory.{Directory, IsDirectory, Listed, are_distinct, identifiers, is_new, with_stores}
+use Rattle.store_directory.specs.Directory.{Directory, IsDirectory, Listed, are_distinct, identifiers}
 use Rattle.store_directory.specs.Entries.{FitsChange}
 use Rattle.store_directory.specs.declared.row.Row.{Row}
 use Rattle.store_directory.proofs.Folded.{apply_all-append}
@@ -24,7 +24,7 @@ use Rattle.store_load.proofs.Eachs.{each_cons}
 use Rattle.image_table.specs.Going.{table_put, with_row}
 use Rattle.image_table.specs.Table.{store_of, store_with, table_by, table_rule}
 use Rattle.image_table.proofs.Frames.{Loads, store_kept, table_loads}
-use Rattle.put_laws.specs.Puts.{Outcome, Stays, changes_of_put, is_unnamed}
+use Rattle.put_laws.specs.Puts.{Outcome, changes_of_put, is_unnamed}
 use Rattle.put_laws.specs.Walks.{HasGoneOn, HasOffered, IsOther, IsTurn, offered_to, table_at}
 use Rattle.put_laws.proofs.Spots.{Spot, drop_more, drop_past, each_at, find_here, first_here, get_left, offered_here, offered_next, spot}
 

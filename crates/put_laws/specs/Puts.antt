@@ -1,5 +1,5 @@
 -- What an arriving packet does to one store: the changes of its directory, and what its blocks spell.
-use Rattle.std.specs.Prelude.{◌≡◌, ◌≤◌, ◌<◌, ◌^◌, ℕ, ◌+◌, Bool, true, false, ◌&&◌, List, [], ◌∷◌, length, map, Some}
+use Rattle.std.specs.Prelude.{◌≡◌, ◌≤◌, ◌<◌, ◌^◌, ℕ, ◌+◌, Bool, true, false, List, [], ◌∷◌, length, map, Some}
 use Rattle.space_packet.specs.Charge.{charge_of}
 use Rattle.chain_log.specs.Pages.{block_octets}
 use Rattle.pst_model.specs.Arrivals.{is_offered}

@@ -1,15 +1,14 @@
 -- An arriving packet on its way along the stores.
-use Rattle.std.specs.Prelude.{◌≡◌, ◌<◌, ◌^◌, ℕ, ◌+◌, ◌&&◌, true, List, [], ◌∷◌, ◌++◌, All, length, map, drop, take, flat_map, slice_get, Some}
+use Rattle.std.specs.Prelude.{◌≡◌, ℕ, ◌+◌, true, List, [], ◌∷◌, ◌++◌, All, length, map, drop, take, flat_map, slice_get, Some}
 use Rattle.board.specs.Flash.{IsContent}
 use Rattle.pst_model.specs.Arrivals.{offer_report, offered}
 use Rattle.pst_model.specs.Reports.{count_behind}
 use Rattle.pst_model.specs.Table.{Store, Stored, Table}
-use Rattle.record_view.specs.declared.link.Link.{Link}
 use Rattle.store_directory.specs.Changes.{Change, Clock, apply_all}
 use Rattle.store_directory.specs.Directory.{Directory, IsDirectory, Listed, is_new}
 use Rattle.store_directory.specs.Entries.{FitsChange}
 use Rattle.image_table.specs.Table.{table_by}
-use Rattle.put_laws.specs.Puts.{Begins, Outcome, Stays, Takes, Tells, changes_of_put, is_unnamed}
+use Rattle.put_laws.specs.Puts.{Begins, Outcome, changes_of_put, is_unnamed}
 
 -- the number of reports behind those of the stores that refuse a packet
 abbrev pub reports_behind : Stored → Table → ℕ

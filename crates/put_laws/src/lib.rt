@@ -3,9 +3,11 @@
 //! crates above cite it.
 #![tactic(auto)]
 
+mod beside;
 mod indexing;
 mod walking;
 
+pub use beside::records_lie_before_new_pages;
 pub use indexing::{
     indexed_tables_are_shown, indexes_go_on, rows_and_indexes_stay_together,
     shown_tables_are_indexed,
