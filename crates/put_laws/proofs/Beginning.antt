@@ -1,5 +1,5 @@
 -- A store that takes the packet into a new block.
-use Rattle.std.proofs.Common.{◌≡◌, ℕ, suc, ◌+◌, ◌<◌, ◌≤◌, true, List, [], ◌∷◌, ◌++◌, length, drop, Some, eqb-true, refl, sym, ◌∙◌, ap, subst, arith}
+use Rattle.std.proofs.Common.{◌≡◌, ℕ, suc, ◌+◌, ◌<◌, ◌≤◌, true, List, [], ◌∷◌, ◌++◌, length, drop, slice_set, Some, eqb-true, refl, sym, ◌∙◌, ap, subst, arith}
 use Rattle.std.specs.Prelude.{slice_get}
 use Rattle.std.specs.List.{All}
 use Rattle.std.proofs.lemmas.List.Elements.{All-cons, All-nil}
@@ -26,14 +26,14 @@ use Rattle.image_table.specs.Going.{table_put, with_row}
 use Rattle.image_table.specs.Going as going
 use Rattle.image_table.specs.Table.{table_by, table_rule}
 use Rattle.image_table.proofs.Puts.{block_linked, first_put}
-use Rattle.put_laws.specs.Puts.{Accepts, Begins, IsFull, SpellsAt, SpellsFirst, changes_of_put, is_unnamed, row_behind_put}
+use Rattle.put_laws.specs.Puts.{Accepts, Begins, IsFull, SpellsAt, SpellsFirst, changes_of_put, is_unnamed, listed_behind, row_behind_put}
 use Rattle.put_laws.specs.Walks.{HasGoneOn, HasOffered, IsTurn, table_at}
 use Rattle.put_laws.proofs.Applies.{Fits, found, links_fit_in, links_name_one, new_linked, new_put, put_fits_in, put_names_none}
 use Rattle.put_laws.proofs.Contents.{few, keeps_is, room, taken_row, taking}
 use Rattle.put_laws.proofs.FewLinks.{few_links}
 use Rattle.put_laws.proofs.Replaced.{listed_in}
-use Rattle.put_laws.proofs.Spots.{Spot}
-use Rattle.put_laws.proofs.Taking.{fits_taken, left_taken, loads_taken, meaning, next_taken, now_is, row_fits, row_lawful, unnamed_taken}
+use Rattle.put_laws.proofs.Spots.{Spot, set_again, set_in}
+use Rattle.put_laws.proofs.Taking.{fits_taken, left_taken, loads_taken, meaning, next_taken, now_is, row_fits, row_lawful, stores_taken, unnamed_taken}
 use Rattle.put_laws.proofs.Turns.{Step, Turn, left_in, loaded, put_next, spot_listed, turn_of, walked}
 
 -- a link behind the others is the last one, and no record of its block counts yet
@@ -89,11 +89,17 @@ module _ (blocks : ℕ) (image : ℕ → List ℕ) (d : Directory) (table : Tabl
   left_linked : drop (suc at) middle.stores ≡ drop (suc at) d.stores
   left_linked = left_in d.stores there.front s linked there.back at there.parted there.long
 
+  stores_linked : middle.stores ≡ slice_set d.stores at linked
+  stores_linked = set_in d.stores there.front s linked there.back at there.parted there.long
+
   written : All FitsChange (changes_of_put s.row (Begins gone new))
   written =
       All-cons FitsChange (Links s.identifier (new ∷ [])) (Put (row_behind_put gone s.row) ∷ [])
       ((listed_in d turn.directory there.front s there.back there.parted).fits.identifier, omega arith, All-cons FitsLink new [] fits_link (All-nil FitsLink))
       (All-cons FitsChange (Put (row_behind_put gone s.row)) [] (row_fits blocks image d table stored at s store turn gone accepts) (All-nil FitsChange))
+
+  abbrev new_behind : Listed
+  new_behind = listed_behind (Begins gone new) s
 
   pub fits_linked : Fits blocks d (Links s.identifier (new ∷ [])) middle
   fits_linked = links_fit_in blocks d turn.directory share there.front s there.back there.parted new spells.own spells.unnamed fits_link room_for_one
@@ -139,6 +145,9 @@ module _ (blocks : ℕ) (image : ℕ → List ℕ) (d : Directory) (table : Tabl
               loads_taken blocks image middle table stored at linked store turn_linked gone accepts link (links ++ new ∷ [])
               (ap (λ (l : List Link). l ++ new ∷ []) some) spelled;
           left = left_taken blocks image middle table stored at linked store turn_linked gone accepts ∙ left_linked;
+          stores =
+              stores_taken blocks image middle table stored at linked store turn_linked gone accepts
+              ∙ ap (λ (l : List Listed). slice_set l at new_behind) stores_linked ∙ set_again d.stores at linked new_behind;
           unnamed = λ block unnamed other.
               unnamed_taken blocks image middle table stored at linked store turn_linked gone accepts block (unnamed_linked block unnamed other);
         }
@@ -213,6 +222,9 @@ module _ (blocks : ℕ) (image : ℕ → List ℕ) (d : Directory) (table : Tabl
           directory = fits.directory;
           loads = loads_first;
           left = left_in middle.stores there.front linked new_first there.back at refl there.long ∙ left_linked;
+          stores =
+              set_in middle.stores there.front linked new_first there.back at refl there.long
+              ∙ ap (λ (l : List Listed). slice_set l at new_behind) stores_linked ∙ set_again d.stores at linked new_behind;
           unnamed = λ block unnamed other.
               put_names_none blocks middle linked_fits.directory linked_fits.share there.front linked there.back refl row refl refl
               (row_lawful blocks image d table stored at s store turn gone accepts) (row_fits blocks image d table stored at s store turn gone accepts)

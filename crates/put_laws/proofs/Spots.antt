@@ -1,5 +1,5 @@
 -- A place in a list, and the list before and behind it.
-use Rattle.std.proofs.Common.{◌≡◌, ℕ, zero, suc, true, false, not, ◌==◌, List, [], ◌∷◌, ◌++◌, length, map, drop, take, Option, Some, refl, sym, ◌∙◌, ap}
+use Rattle.std.proofs.Common.{◌≡◌, ℕ, zero, suc, true, false, not, ◌==◌, List, [], ◌∷◌, ◌++◌, length, map, drop, take, slice_set, Option, Some, refl, sym, ◌∙◌, ap}
 use Rattle.std.specs.Prelude.{find, slice_get}
 use Rattle.std.proofs.lemmas.Bool.{and_parts, eq-eqb, not-true}
 use Rattle.std.proofs.lemmas.Option.{none-some, same_Some}
@@ -60,6 +60,29 @@ drop_more xs ys at same = sym (one_past xs at) ∙ ap (drop 1) same ∙ one_past
     one_past zs zero = refl
     one_past [] (suc at) = refl
     one_past (z ∷ zs) (suc at) = one_past zs at
+
+-- another element at a place
+
+set_here : {X : Type 0} (front : List X) (x new : X) (back : List X) → slice_set (front ++ x ∷ back) (length front) new ≡ front ++ new ∷ back
+set_here [] x new back = refl
+set_here (y ∷ front) x new back = ap (λ (l : List _). y ∷ l) (set_here front x new back)
+
+pub set_in : {X : Type 0} (xs front : List X) (x new : X) (back : List X) (at : ℕ) → xs ≡ front ++ x ∷ back → length front ≡ at
+    → front ++ new ∷ back ≡ slice_set xs at new
+set_in xs front x new back at parted long =
+    sym (set_here front x new back)
+    ∙ ap (λ (n : ℕ). slice_set (front ++ x ∷ back) n new) long
+    ∙ ap (λ (l : List _). slice_set l at new) (sym parted)
+
+pub set_same : {X : Type 0} (xs : List X) (at : ℕ) (x : X) → slice_get xs at ≡ Some x → slice_set xs at x ≡ xs
+set_same [] at x is = absurd (none-some x is)
+set_same (y ∷ xs) zero x is = ap (λ (z : _). z ∷ xs) (sym (same_Some y x is))
+set_same (y ∷ xs) (suc at) x is = ap (λ (l : List _). y ∷ l) (set_same xs at x is)
+
+pub set_again : {X : Type 0} (xs : List X) (at : ℕ) (a b : X) → slice_set (slice_set xs at a) at b ≡ slice_set xs at b
+set_again [] at a b = refl
+set_again (y ∷ xs) zero a b = refl
+set_again (y ∷ xs) (suc at) a b = ap (λ (l : List _). y ∷ l) (set_again xs at a b)
 
 -- the value of an element at its place
 pub each_at : {A B : Type 0} (f : A → Option B) (xs : List A) (ys : List B) (at : ℕ) (x : A) (y : B)

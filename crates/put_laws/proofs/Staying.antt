@@ -10,6 +10,7 @@ use Rattle.store_directory.specs.Directory.{Directory, Listed}
 use Rattle.store_directory.specs.Entries.{FitsChange}
 use Rattle.put_laws.specs.Puts.{Refuses, Stays, need_of}
 use Rattle.put_laws.specs.Walks.{HasGoneOn, HasOffered, IsTurn}
+use Rattle.put_laws.proofs.Spots.{set_same}
 use Rattle.put_laws.proofs.Turns.{Turn, kept_is, same_next, turn_of, walked}
 
 -- what an offer makes of a store
@@ -42,6 +43,7 @@ module _ (blocks : ℕ) (image : ℕ → List ℕ) (d : Directory) (table : Tabl
         directory = walk.directory;
         loads = walk.loads ∙ ap Some (same_next blocks image before table stored at s store here same);
         left = refl;
+        stores = sym (set_same before.stores at s here.listed);
         unnamed = λ block new other. new;
       })
 

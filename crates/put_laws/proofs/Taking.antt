@@ -1,5 +1,5 @@
 -- A store that takes the packet into its last block.
-use Rattle.std.proofs.Common.{◌≡◌, ℕ, suc, ◌+◌, ◌≤◌, true, List, [], ◌∷◌, ◌++◌, length, drop, Some, refl, sym, ◌∙◌, ap, subst, arith}
+use Rattle.std.proofs.Common.{◌≡◌, ℕ, suc, ◌+◌, ◌≤◌, true, List, [], ◌∷◌, ◌++◌, length, drop, slice_set, Some, refl, sym, ◌∙◌, ap, subst, arith}
 use Rattle.std.specs.Prelude.{find}
 use Rattle.std.proofs.lemmas.List.Elements.{All-cons, All-nil}
 use Rattle.std.proofs.lemmas.Option.{same_Some}
@@ -25,7 +25,7 @@ use Rattle.put_laws.proofs.Applies.{Fits, found, new_put, put_fits_in, put_names
 use Rattle.put_laws.proofs.Contents.{count_room, few, keeps_is, room, taken_row, taking}
 use Rattle.put_laws.proofs.Replaced.{listed_in}
 use Rattle.put_laws.proofs.Rows.{put_fits, put_lawful}
-use Rattle.put_laws.proofs.Spots.{Spot}
+use Rattle.put_laws.proofs.Spots.{Spot, set_in}
 use Rattle.put_laws.proofs.Turns.{Turn, found_is, left_in, loaded, put_next, spot_listed, turn_of, walked}
 
 module _ (blocks : ℕ) (image : ℕ → List ℕ) (d : Directory) (table : Table) (stored : Stored) (at : ℕ) (s : Listed) (store : Store)
@@ -63,6 +63,9 @@ module _ (blocks : ℕ) (image : ℕ → List ℕ) (d : Directory) (table : Tabl
 
   pub left_taken : drop (suc at) next_taken.stores ≡ drop (suc at) d.stores
   left_taken = left_in d.stores there.front s new_taken there.back at there.parted there.long
+
+  pub stores_taken : next_taken.stores ≡ slice_set d.stores at new_taken
+  stores_taken = set_in d.stores there.front s new_taken there.back at there.parted there.long
 
   -- the packet is as new as the table
   pub now_is : d.now ≡ stored.time
@@ -120,5 +123,6 @@ module _ (blocks : ℕ) (image : ℕ → List ℕ) (d : Directory) (table : Tabl
         directory = fits.directory;
         loads = loads_taken blocks image before table stored at s store here gone accepts spells.link spells.links spells.some spells.spelled;
         left = left_taken blocks image before table stored at s store here gone accepts;
+        stores = stores_taken blocks image before table stored at s store here gone accepts;
         unnamed = λ block unnamed other. unnamed_taken blocks image before table stored at s store here gone accepts block unnamed;
       })

@@ -20,6 +20,7 @@ use Rattle.put_laws.proofs.Applies.{found, new_put, put_fits_in, put_names_none}
 use Rattle.put_laws.proofs.Contents.{content_within}
 use Rattle.put_laws.proofs.Replaced.{listed_in}
 use Rattle.put_laws.proofs.Rows.{told_fits}
+use Rattle.put_laws.proofs.Spots.{set_in}
 use Rattle.put_laws.proofs.Staying.{refusal}
 use Rattle.put_laws.proofs.Turns.{Turn, found_is, kept_is, left_in, loaded, put_next, spot_listed, turn_of, walked}
 
@@ -75,6 +76,7 @@ module _ (blocks : ℕ) (image : ℕ → List ℕ) (d : Directory) (table : Tabl
             (put_next blocks image before table stored at s store here row 0 [] refl
             (told_store s records store whole ∙ sym (refusal stored store refuses)));
         left = left_in before.stores there.front s new there.back at there.parted there.long;
+        stores = set_in before.stores there.front s new there.back at there.parted there.long;
         unnamed = λ block unnamed other.
             put_names_none blocks before walk.directory share there.front s there.back there.parted row refl refl listed.lawful row_fits block unnamed;
       })

@@ -1,6 +1,6 @@
 -- The store whose turn it is, in the directory and in the table.
 use Rattle.std.proofs.Common.{◌≡◌, ℕ, suc, ◌+◌, true, List, [], ◌∷◌, ◌++◌, length, map, drop, Some, refl, sym, ◌∙◌, ap, subst, arith}
-use Rattle.std.specs.Prelude.{find, slice_get}
+use Rattle.std.specs.Prelude.{find, slice_get, slice_set}
 use Rattle.std.specs.Option.{option_and_then}
 use Rattle.std.specs.List.{All}
 use Rattle.std.proofs.lemmas.List.{length-map}
@@ -24,7 +24,7 @@ use Rattle.store_load.proofs.Eachs.{each_cons}
 use Rattle.image_table.specs.Going.{table_put, with_row}
 use Rattle.image_table.specs.Table.{store_of, store_with, table_by, table_rule}
 use Rattle.image_table.proofs.Frames.{Loads, store_kept, table_loads}
-use Rattle.put_laws.specs.Puts.{Outcome, changes_of_put, is_unnamed}
+use Rattle.put_laws.specs.Puts.{Outcome, changes_of_put, is_unnamed, listed_behind}
 use Rattle.put_laws.specs.Walks.{HasGoneOn, HasOffered, IsOther, IsTurn, offered_to, table_at}
 use Rattle.put_laws.proofs.Spots.{Spot, drop_more, drop_past, each_at, find_here, first_here, get_left, offered_here, offered_next, spot}
 
@@ -143,6 +143,7 @@ pub record Step (blocks : ℕ) (image : ℕ → List ℕ) (before : Directory) (
   pub directory : IsDirectory next
   pub loads : table_by blocks image next ≡ Some (table_at stored (suc at) table)
   pub left : drop (suc at) next.stores ≡ drop (suc at) before.stores
+  pub stores : next.stores ≡ slice_set before.stores at (listed_behind outcome s)
   pub unnamed : (block : ℕ) → is_unnamed block before ≡ true → IsOther block outcome → is_unnamed block next ≡ true
 
 pub walked : (blocks : ℕ) (image : ℕ → List ℕ) (d : Directory) (table : Table) (stored : Stored) (at : ℕ) (changes : List Change) (before : Directory) (s : Listed) (outcome : Outcome)
@@ -164,6 +165,7 @@ walked blocks image d table stored at changes before s outcome walk step =
             loads = step.loads;
             left = step.left ∙ drop_more before.stores d.stores at walk.left;
           });
+      stores = step.stores;
       unnamed = step.unnamed;
     }
 

@@ -1,5 +1,5 @@
 -- What an arriving packet does to one store: the changes of its directory, and what its blocks spell.
-use Rattle.std.specs.Prelude.{◌≡◌, ◌≤◌, ◌<◌, ◌^◌, ℕ, ◌+◌, Bool, true, false, List, [], ◌∷◌, length, map, Some}
+use Rattle.std.specs.Prelude.{◌≡◌, ◌≤◌, ◌<◌, ◌^◌, ℕ, ◌+◌, Bool, true, false, List, [], ◌∷◌, ◌++◌, length, map, Some}
 use Rattle.space_packet.specs.Charge.{charge_of}
 use Rattle.chain_log.specs.Pages.{block_octets}
 use Rattle.pst_model.specs.Arrivals.{is_offered}
@@ -8,7 +8,7 @@ use Rattle.pst_model.specs.Table.{Store, Stored}
 use Rattle.record_view.specs.Records.{record_at}
 use Rattle.record_view.specs.declared.link.Link.{Link}
 use Rattle.retrieval.specs.Picks.{dropped_row}
-use Rattle.store_directory.specs.Changes.{Change, Links, Put}
+use Rattle.store_directory.specs.Changes.{Change, Links, Put, listed_by}
 use Rattle.store_directory.specs.Directory.{Directory, Listed, is_new}
 use Rattle.store_directory.specs.declared.row.Row.{Row}
 use Rattle.store_load.specs.Claims.{all_links, block_of, is_data}
@@ -43,6 +43,14 @@ changes_of_put row Tells = Put (told_row row) ∷ []
 changes_of_put row (Takes gone) = Put (row_behind_put gone row) ∷ []
 changes_of_put row (Begins gone link) =
     Links row.identifier (link ∷ []) ∷ Put (row_behind_put gone row) ∷ []
+
+-- what the directory lists of the store behind them
+abbrev pub listed_behind : Outcome → Listed → Listed
+listed_behind Stays s = s
+listed_behind Tells s = listed_by (told_row s.row) (Some s)
+listed_behind (Takes gone) s = listed_by (row_behind_put gone s.row) (Some s)
+listed_behind (Begins gone link) s =
+    listed_by (row_behind_put gone s.row) (Some (record s { links = s.links ++ link ∷ [] }))
 
 -- the pages that a packet takes
 abbrev pub need_of : Stored → ℕ

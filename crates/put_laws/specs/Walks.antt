@@ -1,5 +1,5 @@
 -- An arriving packet on its way along the stores.
-use Rattle.std.specs.Prelude.{◌≡◌, ℕ, ◌+◌, true, List, [], ◌∷◌, ◌++◌, All, length, map, drop, take, flat_map, slice_get, Some}
+use Rattle.std.specs.Prelude.{◌≡◌, ℕ, ◌+◌, true, List, [], ◌∷◌, ◌++◌, All, length, map, drop, take, flat_map, slice_get, slice_set, Some}
 use Rattle.board.specs.Flash.{IsContent}
 use Rattle.pst_model.specs.Arrivals.{offer_report, offered}
 use Rattle.pst_model.specs.Reports.{count_behind}
@@ -8,7 +8,7 @@ use Rattle.store_directory.specs.Changes.{Change, Clock, apply_all}
 use Rattle.store_directory.specs.Directory.{Directory, IsDirectory, Listed, is_new}
 use Rattle.store_directory.specs.Entries.{FitsChange}
 use Rattle.image_table.specs.Table.{table_by}
-use Rattle.put_laws.specs.Puts.{Begins, Outcome, changes_of_put, is_unnamed}
+use Rattle.put_laws.specs.Puts.{Begins, Outcome, changes_of_put, is_unnamed, listed_behind}
 
 -- the number of reports behind those of the stores that refuse a packet
 abbrev pub reports_behind : Stored → Table → ℕ
@@ -52,13 +52,15 @@ abbrev pub IsOther : (block : ℕ) → Outcome → Type 0
 IsOther block (Begins gone link) = is_new block (link.block ∷ []) ≡ true
 IsOther block _ = Unit {0}
 
--- The next store was offered the packet too: by its changes the walk goes on. A block that no store
--- named, and that is not begun for this one, is one that no store names.
+-- The next store was offered the packet too: by its changes the walk goes on. The others are listed as
+-- they were. A block that no store named, and that is not begun for this one, is one that no store
+-- names.
 pub record HasGoneOn (blocks : ℕ) (image : ℕ → List ℕ) (d : Directory) (table : Table)
     (stored : Stored) (at : ℕ) (changes : List Change) (before : Directory) (s : Listed)
     (outcome : Outcome) : Type 0 where
   pub next : Directory
   pub applied : apply_all before (changes_of_put s.row outcome) ≡ Some next
   pub walk : HasOffered blocks image d table stored (at + 1) (changes ++ changes_of_put s.row outcome) next
+  pub stores : next.stores ≡ slice_set before.stores at (listed_behind outcome s)
   pub unnamed : (block : ℕ) → is_unnamed block before ≡ true → IsOther block outcome
       → is_unnamed block next ≡ true
