@@ -14,3 +14,4 @@ pub mod Beginning
 pub mod Ending
 pub mod Indexed
 pub mod NewPages
+pub mod LastBlocks

@@ -1,5 +1,5 @@
 -- What an arriving packet does to one store: the changes of its directory, and what its blocks spell.
-use Rattle.std.specs.Prelude.{◌≡◌, ◌≤◌, ◌<◌, ◌^◌, ℕ, ◌+◌, Bool, true, false, List, [], ◌∷◌, ◌++◌, length, map, Some}
+use Rattle.std.specs.Prelude.{◌≡◌, ◌≤◌, ◌<◌, ◌^◌, ℕ, ◌+◌, Bool, true, false, List, [], ◌∷◌, ◌++◌, length, map, Option, Some, None}
 use Rattle.space_packet.specs.Charge.{charge_of}
 use Rattle.chain_log.specs.Pages.{block_octets}
 use Rattle.pst_model.specs.Arrivals.{is_offered}
@@ -80,6 +80,11 @@ pub record SpellsBehind (image : ℕ → List ℕ) (s : Listed) (stored : Stored
   pub links : List Link
   pub some : s.links ≡ link ∷ links
   pub spelled : SpellsAt image (last_of link links).block (used_by image s.row link links) (end_of s.row) stored
+
+-- the link of a store's last block, where it has one
+abbrev pub last_link : List Link → Option Link
+last_link [] = None
+last_link (link ∷ links) = Some (last_of link links)
 
 -- no store's link names this block
 abbrev pub is_unnamed : (block : ℕ) → Directory → Bool

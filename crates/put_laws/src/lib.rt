@@ -5,6 +5,7 @@
 
 mod beside;
 mod indexing;
+mod tails;
 mod walking;
 
 pub use beside::records_lie_before_new_pages;
@@ -12,6 +13,7 @@ pub use indexing::{
     indexed_tables_are_shown, indexes_go_on, rows_and_indexes_stay_together,
     shown_tables_are_indexed,
 };
+pub use tails::{last_blocks_go_on, last_blocks_stay_beside};
 pub use walking::{
     walks_begin, walks_begin_blocks, walks_end, walks_pass_stores, walks_stay_beside,
     walks_take_packets, walks_tell_refusals,
