@@ -13,7 +13,7 @@ use Rattle.image_table.proofs.Frames.{table_loads}
 use Rattle.image_table.proofs.Puts.{clock_goes}
 use Rattle.put_laws.specs.Walks.{HasOffered, clock_of, reports_behind}
 
-clock_applies : (d : Directory) (now reports : ℕ) → reports < 16384 → apply d (Clock now reports) ≡ Some (record d { now = now; reports = reports })
+pub clock_applies : (d : Directory) (now reports : ℕ) → reports < 16384 → apply d (Clock now reports) ≡ Some (record d { now = now; reports = reports })
 unfolding apply
 clock_applies d now reports low = rw (lt-ltb reports 16384 low) refl
 

@@ -7,7 +7,7 @@ ghost use Rattle.pst_model.specs.Arrivals.{arrive, is_offered};
 ghost use Rattle.pst_model.specs.Table.{Store, Stored, Table};
 ghost use Rattle.record_view.specs.declared.link.Link.{Link};
 ghost use Rattle.space_packet.specs.Packet.{apid_of};
-ghost use Rattle.store_directory.specs.Changes.{Change, apply};
+ghost use Rattle.store_directory.specs.Changes.{Change, Clock, apply};
 ghost use Rattle.store_directory.specs.Directory.{Directory, IsDirectory, Listed};
 ghost use Rattle.store_directory.specs.Entries.{entry_octets};
 ghost use Rattle.store_directory.specs.Folds.{fold_entry};
@@ -94,4 +94,15 @@ pub fn walks_end()
         (record { time = max table.now moment; octets = packet }) at changes next
         → length table.stores ≤ at → (apid_of packet == 2047) ≡ false
         → table_by blocks image next ≡ Some (arrive number moment packet table).table }
+{}
+
+/// An idle packet changes the clock alone: the entry has that change.
+pub fn idle_packets_change_the_clock()
+    ensures { (blocks : ℕ) (image : ℕ → List ℕ) (d : Directory) (table : Table)
+        (number moment : ℕ) (packet : List ℕ)
+        → IsContent blocks image → IsDirectory d → table_by blocks image d ≡ Some table
+        → max table.now moment < 2 ^ 48 → (apid_of packet == 2047) ≡ true
+        → (next : Directory) × IsDirectory next × (next.stores ≡ d.stores)
+        × (fold_entry d (entry_octets (Clock (max table.now moment) table.reports ∷ [])) ≡ Some next)
+        × (table_by blocks image next ≡ Some (arrive number moment packet table).table) }
 {}
