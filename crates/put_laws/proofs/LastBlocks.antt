@@ -1,10 +1,9 @@
 -- The last block of a store behind a put.
-use Rattle.std.proofs.Common.{◌≡◌, ℕ, zero, suc, ◌+◌, ◌-◌, ◌*◌, ◌%◌, ◌<◌, ◌≤◌, ◌&&◌, ◌||◌, ◌==◌, nat_le, nat_lt, Bool, true, false, not, List, [], ◌∷◌, ◌++◌, append-nil, length, drop, Option, Some, None, eqb-true, refl, sym, ◌∙◌, ap, subst, arith}
+use Rattle.std.proofs.Common.{◌≡◌, ℕ, zero, suc, ◌+◌, ◌-◌, ◌*◌, ◌%◌, ◌<◌, ◌≤◌, ◌&&◌, nat_lt, Bool, true, false, not, List, [], ◌∷◌, ◌++◌, length, Option, Some, None, refl, sym, ◌∙◌, ap, subst, arith}
 use Rattle.std.specs.Prelude.{All, if◌then◌else◌, slice_get}
 use Rattle.std.specs.List.{list_any}
 use Rattle.std.proofs.lemmas.Bool.Decides.{nat_tests}
 use Rattle.std.proofs.lemmas.List.Elements.{All-cons, All-head, All-nil, All-tail}
-use Rattle.std.proofs.lemmas.List.Folds.{list_any-append}
 use Rattle.std.proofs.lemmas.Option.{same_Some}
 use Rattle.board.specs.Flash.{IsContent, pages_from}
 use Rattle.chain_log.specs.Pages.{block_octets}
@@ -19,7 +18,6 @@ use Rattle.store_directory.specs.Changes.{Change}
 use Rattle.store_directory.specs.Directory.{Directory, Listed, trim_front, trimmed}
 use Rattle.store_directory.specs.Rows.{between, is_by}
 use Rattle.store_directory.specs.declared.row.Row.{Row}
-use Rattle.store_load.specs.Each.{each}
 use Rattle.store_load.specs.Extents.{end_of, extent_to, extents_from, last_of, last_read, pages_in, read_extent}
 use Rattle.store_load.specs.Frame.{in_extent, in_store, pages_read}
 use Rattle.store_load.specs.Keeping.{IsLinkOf, Keeps}
@@ -30,7 +28,7 @@ use Rattle.store_load.proofs.Counting.{kept_parts}
 use Rattle.store_load.proofs.Eachs.{each_cons, each_more, in_either, in_other, one}
 use Rattle.store_load.proofs.More.{content_more, extents_more, last_spelled}
 use Rattle.store_load.proofs.Records.{extent_length, extent_stays, extent_within, few_records, records_none}
-use Rattle.put_laws.specs.Puts.{Accepts, Begins, SpellsAt, SpellsBehind, SpellsFirst, Takes, Tells, last_link, listed_behind, need_of}
+use Rattle.put_laws.specs.Puts.{Accepts, Begins, SpellsBehind, SpellsFirst, Takes, Tells, last_link, listed_behind, need_of}
 use Rattle.put_laws.specs.Walks.{HasOffered, IsTurn, offered_to, table_at}
 use Rattle.put_laws.proofs.Applies.{found}
 use Rattle.put_laws.proofs.Contents.{few, keeps_is}
@@ -221,7 +219,7 @@ used_beside blocks image other d table stored at place changes next s walk pages
         let read = last_spelled image (end_of s.row) link links are.reads are.read in
         let own = own_last blocks link links all.each_link in
         let stays = extent_stays blocks image other walk.pages pages extent (last_read are.reads) own.block read
-            (λ p h. own_pages p
-            (ap (in_store image p s.row) is
-            ∙ last_in image p (end_of s.row) link links (ap (λ (o : Option (List Meaning)). pages_from (256 * extent.block) (pages_read o) p) read ∙ h))) in
+        (λ p h. own_pages p
+        (ap (in_store image p s.row) is
+        ∙ last_in image p (end_of s.row) link links (ap (λ (o : Option (List Meaning)). pages_from (256 * extent.block) (pages_read o) p) read ∙ h))) in
         ap pages_read (stays ∙ sym read)

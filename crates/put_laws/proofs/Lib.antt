@@ -15,3 +15,4 @@ pub mod Ending
 pub mod Indexed
 pub mod NewPages
 pub mod LastBlocks
+pub mod Examples

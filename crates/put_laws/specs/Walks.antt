@@ -1,4 +1,5 @@
--- An arriving packet on its way along the stores.
+-- An arriving packet on its way along the stores. Its entry begins with the clock. Then each store's changes
+-- follow, a link before the put that counts its record.
 use Rattle.std.specs.Prelude.{◌≡◌, ℕ, ◌+◌, true, List, [], ◌∷◌, ◌++◌, All, length, map, drop, take, flat_map, slice_get, slice_set, Some}
 use Rattle.board.specs.Flash.{IsContent}
 use Rattle.pst_model.specs.Arrivals.{offer_report, offered}

@@ -15,6 +15,6 @@ pub use indexing::{
 };
 pub use tails::{last_blocks_go_on, last_blocks_stay_beside};
 pub use walking::{
-    idle_packets_change_the_clock, walks_begin, walks_begin_blocks, walks_end, walks_pass_stores, walks_stay_beside,
-    walks_take_packets, walks_tell_refusals,
+    idle_packets_change_the_clock, walks_begin, walks_begin_blocks, walks_end, walks_pass_stores,
+    walks_stay_beside, walks_take_packets, walks_tell_refusals,
 };
