@@ -16,3 +16,4 @@ pub mod Indexed
 pub mod NewPages
 pub mod LastBlocks
 pub mod Examples
+pub mod Counts

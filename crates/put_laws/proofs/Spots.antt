@@ -35,11 +35,11 @@ pub drop_past : {X : Type 0} (front : List X) (x : X) (back : List X) → drop (
 drop_past [] x back = refl
 drop_past (y ∷ front) x back = drop_past front x back
 
-take_to : {X : Type 0} (front : List X) (x : X) (back : List X) → take (length front) (front ++ x ∷ back) ≡ front
+pub take_to : {X : Type 0} (front : List X) (x : X) (back : List X) → take (length front) (front ++ x ∷ back) ≡ front
 take_to [] x back = refl
 take_to (y ∷ front) x back = ap (λ (l : List _). y ∷ l) (take_to front x back)
 
-take_past : {X : Type 0} (front : List X) (x : X) (back : List X) → take (suc (length front)) (front ++ x ∷ back) ≡ front ++ x ∷ []
+pub take_past : {X : Type 0} (front : List X) (x : X) (back : List X) → take (suc (length front)) (front ++ x ∷ back) ≡ front ++ x ∷ []
 take_past [] x back = refl
 take_past (y ∷ front) x back = ap (λ (l : List _). y ∷ l) (take_past front x back)
 

@@ -16,6 +16,10 @@ abbrev pub reports_behind : Stored → Table → ℕ
 reports_behind stored table =
     count_behind table.reports (length (flat_map (offer_report stored) table.stores))
 
+-- how many reports the first stores make, so many of them
+abbrev pub reports_up_to : Stored → (at : ℕ) → Table → ℕ
+reports_up_to stored at table = length (flat_map (offer_report stored) (take at table.stores))
+
 -- stores, the first of which a packet was offered to, so many of them
 abbrev pub offered_to : Stored → (at : ℕ) → List Store → List Store
 offered_to stored at stores = map (offered stored) (take at stores) ++ drop at stores

@@ -4,11 +4,13 @@
 #![tactic(auto)]
 
 mod beside;
+mod counting;
 mod indexing;
 mod tails;
 mod walking;
 
 pub use beside::records_lie_before_new_pages;
+pub use counting::refusals_are_counted;
 pub use indexing::{
     indexed_tables_are_shown, indexes_go_on, rows_and_indexes_stay_together,
     shown_tables_are_indexed,
