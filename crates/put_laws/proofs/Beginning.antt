@@ -32,33 +32,10 @@ use Rattle.put_laws.proofs.Applies.{Fits, found, links_fit_in, links_name_one, n
 use Rattle.put_laws.proofs.Contents.{few, keeps_is, room, taken_row, taking}
 use Rattle.put_laws.proofs.FewLinks.{few_links}
 use Rattle.put_laws.proofs.Replaced.{listed_in}
-use Rattle.put_laws.proofs.Spots.{Spot, set_again, set_in}
+use Rattle.put_laws.proofs.LastLinks.{last_more, used_none}
+use Rattle.put_laws.proofs.Spots.{Spot, get_here, set_again, set_in}
 use Rattle.put_laws.proofs.Taking.{fits_taken, left_taken, loads_taken, meaning, next_taken, now_is, row_fits, row_lawful, stores_taken, unnamed_taken}
 use Rattle.put_laws.proofs.Turns.{Step, Turn, left_in, loaded, put_next, spot_listed, turn_of, walked}
-
--- a link behind the others is the last one, and no record of its block counts yet
-
-last_more : (link : Link) (links : List Link) (new : Link) → last_of link (links ++ new ∷ []) ≡ new
-last_more link [] new = refl
-last_more link (next ∷ links) new = last_more next links new
-
-none_between : (a end : ℕ) → a ≡ end → end < 4294967296 → between a end ≡ 0
-none_between a end same low = omega (arith, same, low)
-
-used_none : (image : ℕ → List ℕ) (row : Row) (link : Link) (links : List Link) (new : Link) → new.first ≡ end_of row
-    → used_by image row link (links ++ new ∷ []) ≡ 0
-unfolding read_extent
-used_none image row link links new same =
-    ap (λ (l : Link). pages_read (read_extent image (extent_to (end_of row) l))) (last_more link links new)
-    ∙ ap (λ (n : ℕ). pages_read (read_extent image (record { block = new.block; first = new.first; count = n }))) (none_between new.first (end_of row) same (omega arith))
-    ∙ ap pages_read (records_none (block_octets image new.block) new.first 0)
-
-get_in : {X : Type 0} (front : List X) (x : X) (back : List X) (at : ℕ) → length front ≡ at → slice_get (front ++ x ∷ back) at ≡ Some x
-get_in front x back at long = ap (slice_get (front ++ x ∷ back)) (sym long) ∙ here front
-  where
-    here : (front : List _) → slice_get (front ++ x ∷ back) (length front) ≡ Some x
-    here [] = refl
-    here (y ∷ front) = here front
 
 module _ (blocks : ℕ) (image : ℕ → List ℕ) (d : Directory) (table : Table) (stored : Stored) (at : ℕ) (s : Listed) (store : Store)
     (turn : Turn blocks image d table stored at s store) (gone : ℕ) (accepts : Accepts store stored gone)
@@ -125,7 +102,7 @@ module _ (blocks : ℕ) (image : ℕ → List ℕ) (d : Directory) (table : Tabl
                 lawful = lawful-from_kept middle fits.directory;
                 share = fits.share;
               }) (found blocks d turn.directory share there.front s there.back there.parted) some spells.first full;
-          listed = get_in there.front linked there.back at there.long;
+          listed = ap (slice_get middle.stores) (sym there.long) ∙ get_here there.front linked there.back;
           shown = turn.shown;
         }
 

@@ -32,6 +32,7 @@ use Rattle.put_laws.specs.Puts.{Accepts, Begins, SpellsBehind, SpellsFirst, Take
 use Rattle.put_laws.specs.Walks.{HasOffered, IsTurn, offered_to, table_at}
 use Rattle.put_laws.proofs.Applies.{found}
 use Rattle.put_laws.proofs.Contents.{few, keeps_is}
+use Rattle.put_laws.proofs.LastLinks.{empty, last_more, none_between}
 use Rattle.put_laws.proofs.Spots.{spot}
 use Rattle.put_laws.proofs.Turns.{Turn, turn_of}
 
@@ -53,11 +54,7 @@ last_left first (suc count) (link ∷ links) some = last_trimmed first link link
 
 last_behind : (links : List Link) (new : Link) → last_link (links ++ new ∷ []) ≡ Some new
 last_behind [] new = refl
-last_behind (link ∷ links) new = ap Some (behind link links)
-  where
-    behind : (link : Link) (links : List Link) → last_of link (links ++ new ∷ []) ≡ new
-    behind link [] = refl
-    behind link (next ∷ links) = behind next links
+last_behind (link ∷ links) new = ap Some (last_more link links new)
 
 -- the pages in use, by the last link and the number behind the last record
 
@@ -102,16 +99,6 @@ some_count row link (next ∷ links) h =
   where
     some : (n : ℕ) → nat_lt 0 n ≡ true → 0 < n
     some n h = grind (arith, nat_tests)
-
-none_between : (a end : ℕ) → a ≡ end → end < 4294967296 → between a end ≡ 0
-none_between a end same low = omega (arith, same, low)
-
--- no record of a link's block counts yet
-empty : (image : ℕ → List ℕ) (end : ℕ) (link : Link) → between link.first end ≡ 0 → read_extent image (extent_to end link) ≡ Some []
-unfolding read_extent
-empty image end link none =
-    ap (λ (n : ℕ). read_extent image (record { block = link.block; first = link.first; count = n })) none
-    ∙ records_none (block_octets image link.block) link.first 0
 
 ends_one_more : (first count gone : ℕ) → gone ≤ count
     → ((first + gone) % 4294967296 + (count - gone + 1)) % 4294967296 ≡ ((first + count) % 4294967296 + 1) % 4294967296

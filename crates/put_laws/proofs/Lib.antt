@@ -10,6 +10,7 @@ pub mod Contents
 pub mod Telling
 pub mod Taking
 pub mod FewLinks
+pub mod LastLinks
 pub mod Beginning
 pub mod Ending
 pub mod Indexed
@@ -17,3 +18,4 @@ pub mod NewPages
 pub mod LastBlocks
 pub mod Examples
 pub mod Counts
+pub mod Leaves

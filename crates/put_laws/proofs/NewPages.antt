@@ -24,7 +24,7 @@ use Rattle.store_load.proofs.Records.{extent_within}
 
 -- names in parts of a list
 
-new_parts : (n : ℕ) (front back : List Link) → is_new n (named_by (front ++ back)) ≡ true → (is_new n (named_by front) ≡ true) × (is_new n (named_by back) ≡ true)
+pub new_parts : (n : ℕ) (front back : List Link) → is_new n (named_by (front ++ back)) ≡ true → (is_new n (named_by front) ≡ true) × (is_new n (named_by back) ≡ true)
 new_parts n [] back new = (refl, new)
 new_parts n (x ∷ front) back new =
     let parts = and_parts (not (n == x.block)) (is_new n (named_by (front ++ back))) new in
@@ -143,7 +143,7 @@ module _ (blocks : ℕ) (image : ℕ → List ℕ) (content : IsContent blocks i
       (off_last end next links owned.1 parts.1 same past)
 
 -- the links of a directory's stores
-shares : (blocks : ℕ) (stores : List Listed) → may_share 240 blocks stores ≡ true → are_distinct (named_by (all_links stores)) ≡ true
+pub shares : (blocks : ℕ) (stores : List Listed) → may_share 240 blocks stores ≡ true → are_distinct (named_by (all_links stores)) ≡ true
 shares blocks stores h =
     let apart = (and_parts (nat_le (reserved_at 240 stores + 8) blocks && list_all (is_within 240) stores) (are_apart blocks (all_links stores)) h).1 in
     (and_parts (list_all (is_data blocks) (all_links stores)) (are_distinct (named_by (all_links stores))) apart).1

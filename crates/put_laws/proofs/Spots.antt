@@ -61,6 +61,11 @@ drop_more xs ys at same = sym (one_past xs at) ∙ ap (drop 1) same ∙ one_past
     one_past [] (suc at) = refl
     one_past (z ∷ zs) (suc at) = one_past zs at
 
+-- the element at a place
+pub get_here : {X : Type 0} (front : List X) (x : X) (back : List X) → slice_get (front ++ x ∷ back) (length front) ≡ Some x
+get_here [] x back = refl
+get_here (y ∷ front) x back = get_here front x back
+
 -- another element at a place
 
 set_here : {X : Type 0} (front : List X) (x new : X) (back : List X) → slice_set (front ++ x ∷ back) (length front) new ≡ front ++ new ∷ back

@@ -26,7 +26,7 @@ use Rattle.image_table.specs.Table.{store_of, store_with, table_by, table_rule}
 use Rattle.image_table.proofs.Frames.{Loads, store_kept, table_loads}
 use Rattle.put_laws.specs.Puts.{Outcome, changes_of_put, is_unnamed, listed_behind}
 use Rattle.put_laws.specs.Walks.{HasGoneOn, HasOffered, IsOther, IsTurn, offered_to, table_at}
-use Rattle.put_laws.proofs.Spots.{Spot, drop_more, drop_past, each_at, find_here, first_here, get_left, offered_here, offered_next, spot}
+use Rattle.put_laws.proofs.Spots.{Spot, drop_more, drop_past, each_at, find_here, first_here, get_here, get_left, offered_here, offered_next, spot}
 
 -- the stores of a table have the identifiers of those of its directory
 names_same : (image : ℕ → List ℕ) (now : ℕ) (listed : List Listed) (stores : List Store) → each (store_of image now) listed ≡ Some stores
@@ -38,10 +38,6 @@ names_same image now (s ∷ listed) stores h =
     ap laws.identifiers (sym whole)
     ∙ ap (λ (n : ℕ). n ∷ laws.identifiers rest) (ap (λ (x : Store). x.identifier) (sym made))
     ∙ ap (λ (l : List ℕ). s.identifier ∷ l) (names_same image now listed rest behind)
-
-get_here : {X : Type 0} (front : List X) (x : X) (back : List X) → slice_get (front ++ x ∷ back) (length front) ≡ Some x
-get_here [] x back = refl
-get_here (y ∷ front) x back = get_here front x back
 
 -- A store of a directory whose table the image holds, while a packet was offered to those before it.
 pub record Turn (blocks : ℕ) (image : ℕ → List ℕ) (d : Directory) (table : Table) (stored : Stored) (at : ℕ) (s : Listed) (store : Store) : Type 0 where

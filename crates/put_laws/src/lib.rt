@@ -6,6 +6,7 @@
 mod beside;
 mod counting;
 mod indexing;
+mod leaving;
 mod tails;
 mod walking;
 
@@ -15,6 +16,7 @@ pub use indexing::{
     indexed_tables_are_shown, indexes_go_on, rows_and_indexes_stay_together,
     shown_tables_are_indexed,
 };
+pub use leaving::blocks_leave_with_their_links;
 pub use tails::{last_blocks_go_on, last_blocks_stay_beside};
 pub use walking::{
     idle_packets_change_the_clock, walks_begin, walks_begin_blocks, walks_end, walks_pass_stores,
