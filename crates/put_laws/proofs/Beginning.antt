@@ -1,5 +1,5 @@
 -- A store that takes the packet into a new block.
-use Rattle.std.proofs.Common.{◌≡◌, ℕ, suc, ◌+◌, ◌<◌, ◌≤◌, true, List, [], ◌∷◌, ◌++◌, length, drop, slice_set, Some, eqb-true, refl, sym, ◌∙◌, ap, subst, arith}
+use Rattle.std.proofs.Common.{◌≡◌, ℕ, suc, ◌+◌, ◌≤◌, true, List, [], ◌∷◌, ◌++◌, length, drop, slice_set, Some, eqb-true, refl, sym, ◌∙◌, ap, subst, arith}
 use Rattle.std.specs.Prelude.{slice_get}
 use Rattle.std.specs.List.{All}
 use Rattle.std.proofs.lemmas.List.Elements.{All-cons, All-nil}
@@ -12,16 +12,13 @@ use Rattle.record_view.specs.declared.link.Link.{Link}
 use Rattle.store_directory.specs.Changes.{Change, Links, Put}
 use Rattle.store_directory.specs.Directory.{Directory, FitsLink, Listed, is_new, with_stores}
 use Rattle.store_directory.specs.Entries.{FitsChange}
-use Rattle.store_directory.specs.Rows.{between}
 use Rattle.store_directory.specs.declared.row.Row.{Row}
 use Rattle.store_directory.proofs.Lawful.{lawful-from_kept}
 use Rattle.store_load.specs.Claims.{may_share}
 use Rattle.store_load.specs.Kept.{begins_well}
-use Rattle.store_load.specs.Extents.{end_of, extent_to, last_of, read_extent}
-use Rattle.store_load.specs.Frame.{pages_read}
+use Rattle.store_load.specs.Extents.{end_of, last_of}
 use Rattle.store_load.specs.Moving.{used_by}
 use Rattle.store_load.proofs.Counting.{kept_parts}
-use Rattle.store_load.proofs.Records.{records_none}
 use Rattle.image_table.specs.Going.{table_put, with_row}
 use Rattle.image_table.specs.Going as going
 use Rattle.image_table.specs.Table.{table_by, table_rule}

@@ -38,6 +38,7 @@ begins blocks image d table stored pages directory loads le low =
         pages = pages;
         made = rw applied refl;
         written = All-cons FitsChange change [] (low, omega (arith, count)) (All-nil FitsChange);
+        short = omega arith;
         directory = kept;
         loads =
             clock_goes blocks image d table stored.time reports next

@@ -1,11 +1,11 @@
 -- The reports of an arrival, store by store.
-use Rattle.std.proofs.Common.{◌≡◌, ℕ, zero, suc, ◌+◌, ◌≤◌, true, false, List, [], ◌∷◌, ◌++◌, length, take, length-append, Some, refl, sym, ◌∙◌, ap, arith}
+use Rattle.std.proofs.Common.{◌≡◌, ℕ, suc, ◌+◌, ◌≤◌, true, false, List, [], ◌∷◌, ◌++◌, length, take, length-append, Some, sym, ◌∙◌, ap, arith}
 use Rattle.std.specs.Prelude.{flat_map, slice_get}
 use Rattle.std.proofs.lemmas.Bool.{cond-false, cond-true}
 use Rattle.std.proofs.lemmas.List.{take_all}
 use Rattle.pst_model.specs.Arrivals.{is_offered, offer_report, put_report}
 use Rattle.pst_model.specs.Reports.{Report, count_behind, event_report}
-use Rattle.pst_model.specs.Rules.{Put, Refused, Taken, free_of, is_refused, put, to_drop, with_last}
+use Rattle.pst_model.specs.Rules.{Refused, Taken, free_of, is_refused, put, to_drop, with_last}
 use Rattle.pst_model.specs.Table.{Store, Stored, Table, drop_front}
 use Rattle.put_laws.specs.Puts.{Accepts, Refuses, need_of}
 use Rattle.put_laws.specs.Walks.{reports_behind, reports_up_to}

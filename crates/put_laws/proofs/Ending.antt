@@ -32,6 +32,7 @@ module _ (blocks : ℕ) (image : ℕ → List ℕ) (d : Directory) (table : Tabl
     pages = pages;
     made = walk.made;
     written = walk.written;
+    short = walk.short;
     directory = walk.directory;
     loads = records_kept blocks image other walk.pages pages next same (table_at stored at table) walk.loads;
     left = walk.left;

@@ -27,7 +27,7 @@ use Rattle.store_load.specs.Moving.{used_by}
 use Rattle.store_load.proofs.Counting.{kept_parts}
 use Rattle.store_load.proofs.Eachs.{each_cons, each_more, in_either, in_other, one}
 use Rattle.store_load.proofs.More.{content_more, extents_more, last_spelled}
-use Rattle.store_load.proofs.Records.{extent_length, extent_stays, extent_within, few_records, records_none}
+use Rattle.store_load.proofs.Records.{extent_length, extent_stays, extent_within, few_records}
 use Rattle.put_laws.specs.Puts.{Accepts, Begins, SpellsBehind, SpellsFirst, Takes, Tells, last_link, listed_behind, need_of}
 use Rattle.put_laws.specs.Walks.{HasOffered, IsTurn, offered_to, table_at}
 use Rattle.put_laws.proofs.Applies.{found}

@@ -1,8 +1,9 @@
 -- The store whose turn it is, in the directory and in the table.
-use Rattle.std.proofs.Common.{◌≡◌, ℕ, suc, ◌+◌, true, List, [], ◌∷◌, ◌++◌, length, map, drop, Some, refl, sym, ◌∙◌, ap, subst, arith}
+use Rattle.std.proofs.Common.{◌≡◌, ℕ, suc, ◌+◌, ◌*◌, ◌≤◌, true, List, [], ◌∷◌, ◌++◌, length, map, drop, length-append, Some, sym, ◌∙◌, ap, subst, arith}
 use Rattle.std.specs.Prelude.{find, slice_get, slice_set}
 use Rattle.std.specs.Option.{option_and_then}
 use Rattle.std.specs.List.{All}
+use Rattle.std.proofs.lemmas.Grind.{flat_map-append}
 use Rattle.std.proofs.lemmas.List.{length-map}
 use Rattle.std.proofs.lemmas.List.Elements.{All-append}
 use Rattle.std.proofs.lemmas.Option.{same_Some}
@@ -15,7 +16,7 @@ use Rattle.pst_model.specs.Table.{Store, Stored, Table}
 use Rattle.record_view.specs.Records.{Meaning}
 use Rattle.store_directory.specs.Changes.{Change, apply_all}
 use Rattle.store_directory.specs.Directory.{Directory, IsDirectory, Listed, are_distinct, identifiers}
-use Rattle.store_directory.specs.Entries.{FitsChange}
+use Rattle.store_directory.specs.Entries.{FitsChange, change_octets, entry_octets}
 use Rattle.store_directory.specs.declared.row.Row.{Row}
 use Rattle.store_directory.proofs.Folded.{apply_all-append}
 use Rattle.store_load.specs.Each.{each}
@@ -24,7 +25,7 @@ use Rattle.store_load.proofs.Eachs.{each_cons}
 use Rattle.image_table.specs.Going.{table_put, with_row}
 use Rattle.image_table.specs.Table.{store_of, store_with, table_by, table_rule}
 use Rattle.image_table.proofs.Frames.{Loads, store_kept, table_loads}
-use Rattle.put_laws.specs.Puts.{Outcome, changes_of_put, is_unnamed, listed_behind}
+use Rattle.put_laws.specs.Puts.{Begins, Outcome, Stays, Takes, Tells, changes_of_put, is_unnamed, listed_behind}
 use Rattle.put_laws.specs.Walks.{HasGoneOn, HasOffered, IsOther, IsTurn, offered_to, table_at}
 use Rattle.put_laws.proofs.Spots.{Spot, drop_more, drop_past, each_at, find_here, first_here, get_here, get_left, offered_here, offered_next, spot}
 
@@ -131,6 +132,24 @@ turn_of blocks image d table stored at changes next s store walk turn = record {
   shown = turn.shown;
 }
 
+-- the octets of one store's changes, and of an entry with them
+put_short : (row : Row) (outcome : Outcome) → length (entry_octets (changes_of_put row outcome)) ≤ 41
+put_short row Stays = omega arith
+put_short row Tells = omega arith
+put_short row (Takes gone) = omega arith
+put_short row (Begins gone link) = omega arith
+
+entry_more : (at : ℕ) (changes : List Change) (row : Row) (outcome : Outcome) → length (entry_octets changes) ≤ 9 + 41 * at
+    → length (entry_octets (changes ++ changes_of_put row outcome)) ≤ 9 + 41 * suc at
+entry_more at changes row outcome short =
+    omega (
+      arith,
+      short,
+      put_short row outcome,
+      ap length (flat_map-append change_octets changes (changes_of_put row outcome)),
+      length-append (entry_octets changes) (entry_octets (changes_of_put row outcome)),
+    )
+
 -- and behind it
 pub record Step (blocks : ℕ) (image : ℕ → List ℕ) (before : Directory) (table : Table) (stored : Stored) (at : ℕ) (s : Listed) (outcome : Outcome) : Type 0 where
   pub next : Directory
@@ -157,6 +176,7 @@ walked blocks image d table stored at changes before s outcome walk step =
             pages = walk.pages;
             made = apply_all-append d changes more ∙ ap (option_and_then (λ (e : Directory). apply_all e more)) walk.made ∙ step.applied;
             written = All-append FitsChange changes more walk.written step.written;
+            short = entry_more at changes s.row outcome walk.short;
             directory = step.directory;
             loads = step.loads;
             left = step.left ∙ drop_more before.stores d.stores at walk.left;

@@ -1,13 +1,13 @@
 -- An arriving packet on its way along the stores. Its entry begins with the clock. Then each store's changes
 -- follow, a link before the put that counts its record.
-use Rattle.std.specs.Prelude.{◌≡◌, ℕ, ◌+◌, true, List, [], ◌∷◌, ◌++◌, All, length, map, drop, take, flat_map, slice_get, slice_set, Some}
+use Rattle.std.specs.Prelude.{◌≡◌, ◌≤◌, ℕ, ◌+◌, ◌*◌, true, List, [], ◌∷◌, ◌++◌, All, length, map, drop, take, flat_map, slice_get, slice_set, Some}
 use Rattle.board.specs.Flash.{IsContent}
 use Rattle.pst_model.specs.Arrivals.{offer_report, offered}
 use Rattle.pst_model.specs.Reports.{count_behind}
 use Rattle.pst_model.specs.Table.{Store, Stored, Table}
 use Rattle.store_directory.specs.Changes.{Change, Clock, apply_all}
 use Rattle.store_directory.specs.Directory.{Directory, IsDirectory, Listed, is_new}
-use Rattle.store_directory.specs.Entries.{FitsChange}
+use Rattle.store_directory.specs.Entries.{FitsChange, entry_octets}
 use Rattle.image_table.specs.Table.{table_by}
 use Rattle.put_laws.specs.Puts.{Begins, Outcome, changes_of_put, is_unnamed, listed_behind}
 
@@ -37,12 +37,14 @@ abbrev pub clock_of : Stored → Table → Change
 clock_of stored table = Clock stored.time (reports_behind stored table)
 
 -- A packet was offered to so many stores of a table: these changes make a directory of which the image
--- holds the table at that time. They can be written, and the stores that are left are as they were.
+-- holds the table at that time. They can be written, in 9 octets and at most 41 for each store, and the
+-- stores that are left are as they were.
 pub record HasOffered (blocks : ℕ) (image : ℕ → List ℕ) (d : Directory) (table : Table)
     (stored : Stored) (at : ℕ) (changes : List Change) (next : Directory) : Type 0 where
   pub pages : IsContent blocks image
   pub made : apply_all d changes ≡ Some next
   pub written : All FitsChange changes
+  pub short : length (entry_octets changes) ≤ 9 + 41 * at
   pub directory : IsDirectory next
   pub loads : table_by blocks image next ≡ Some (table_at stored at table)
   pub left : drop at next.stores ≡ drop at d.stores
