@@ -4,3 +4,11 @@ pub mod Standing
 pub mod TableRows
 pub mod Stores
 pub mod Puts
+pub mod ByRows
+pub mod Placed
+pub mod SentRows
+pub mod Showing
+pub mod Granted
+pub mod Counts
+pub mod PickedPackets
+pub mod GrantRows

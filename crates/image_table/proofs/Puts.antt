@@ -2,7 +2,8 @@
 use Rattle.std.proofs.Common.{◌≡◌, ℕ, ◌+◌, ◌≤◌, ◌&&◌, nat_le, nat_lt, Bool, true, false, List, [], ◌∷◌, ◌++◌, append-nil, length, map, ◌==◌, eqb-true, drop, Option, Some, None, refl, sym, ◌∙◌, ap, subst, arith}
 use Rattle.std.specs.Prelude.{⊤, find, if◌then◌else◌}
 use Rattle.std.specs.Option.{option_map}
-use Rattle.std.proofs.lemmas.Bool.{eq-eqb}
+use Rattle.std.proofs.lemmas.Bool.{and_parts, eq-eqb}
+use Rattle.control_defs.specs.Lists.{is_pattern_list}
 use Rattle.std.proofs.lemmas.List.{drop-map, map-append}
 use Rattle.std.proofs.lemmas.Option.{none-some, same_Some}
 use Rattle.space_packet.specs.Charge.{charge_of}
@@ -14,7 +15,7 @@ use Rattle.pst_model.specs.Table.{Store, Stored, Table, content_in}
 use Rattle.record_view.specs.Records.{Meaning, record_at}
 use Rattle.record_view.specs.declared.link.Link.{Link}
 use Rattle.store_directory.specs.Changes.{Change, Clock, Links, Put, Swap, apply, change_store, listed_by, may_stand, put_row, with_last, with_links}
-use Rattle.store_directory.specs.Checkpoints.{is_lawful}
+use Rattle.store_directory.specs.Checkpoints.{are_lawful, is_lawful}
 use Rattle.store_directory.specs.Directory.{Directory, Listed, find_store, put_store, swap_last, trimmed, with_stores}
 use Rattle.store_directory.specs.Options.{◌>>=◌}
 use Rattle.store_directory.specs.Rows.{between}
@@ -95,19 +96,22 @@ each_any [] = tt
 each_any (x ∷ xs) = (tt, each_any xs)
 
 pub clock_goes : (blocks : ℕ) (image : ℕ → List ℕ) (d : Directory) (table : Table) (now reports : ℕ) (next : Directory)
-    → Changes blocks image d table (Clock now reports) next → d.now ≤ now
+    → table_by blocks image d ≡ Some table → apply d (Clock now reports) ≡ Some next → d.now ≤ now
     → table_by blocks image next ≡ Some (record table { now = now; reports = reports })
-unfolding apply
-clock_goes blocks image d table now reports next changes le =
-    let loads = table_loads blocks image d table changes.loads in
-    let parts = given_then (nat_lt reports 16384) (λ (_ : ⊤). Some (record d { now = now; reports = reports })) next changes.applied in
+unfolding apply is_lawful
+clock_goes blocks image d table now reports next held applied le =
+    let loads = table_loads blocks image d table held in
+    let parts = given_then (nat_lt reports 16384) (λ (_ : ⊤). Some (record d { now = now; reports = reports })) next applied in
     let made : (record d { now = now; reports = reports }) ≡ next = same_Some (record d { now = now; reports = reports }) next parts.1 in
+    let lists = and_parts (nat_lt d.reports 16384 && is_pattern_list d.forward) (are_lawful d.stores) loads.lawful in
+    let forward = (and_parts (nat_lt d.reports 16384) (is_pattern_list d.forward) lists.0).1 in
+    let lawful : is_lawful (record d { now = now; reports = reports }) ≡ true = rw (parts.0, forward, lists.1) refl in
     let stores = each_same (λ (s : Listed). Unit {0}) (store_of image d.now) (store_of image now) (λ s store _ is. store_later image d.now now le s store is)
     d.stores table.stores (each_any d.stores) loads.stores in
     loads_table blocks image next (record table { now = now; reports = reports })
     (record {
-      lawful = changes.lawful;
-      share = changes.share;
+      lawful = subst (λ (x : Directory). is_lawful x ≡ true) made lawful;
+      share = subst (λ (x : Directory). may_share 240 blocks x.stores ≡ true) made loads.share;
       stores = subst (λ (x : Directory). each (store_of image x.now) x.stores ≡ Some table.stores) made stores;
       whole = sym (ap (λ (x : Directory). table_with x table.stores) made) ∙ ap (λ (t : Table). record t { now = now; reports = reports }) loads.whole;
     })

@@ -1,7 +1,6 @@
 -- A store of a directory, and its place in the table.
-use Rattle.std.proofs.Common.{◌≡◌, ℕ, ◌+◌, ◌≤◌, ◌&&◌, ◌==◌, nat_le, Bool, true, false, List, [], ◌∷◌, All, length, map, Some, refl, sym, ◌∙◌, ap, subst, arith}
+use Rattle.std.proofs.Common.{◌≡◌, ℕ, ◌+◌, ◌==◌, Bool, true, false, List, [], ◌∷◌, All, length, map, Some, refl, sym, ◌∙◌, ap, subst, arith}
 use Rattle.std.specs.Prelude.{find, if◌then◌else◌}
-use Rattle.std.proofs.lemmas.Bool.{and_parts}
 use Rattle.std.proofs.lemmas.Bool.Decides.{nat_tests}
 use Rattle.std.proofs.lemmas.List.Elements.{All-head, All-tail}
 use Rattle.std.proofs.lemmas.Option.{none-some, same_Some}
@@ -12,8 +11,6 @@ use Rattle.pst_model.specs.Rules.{at_first}
 use Rattle.pst_model.specs.Table.{Store, content_in}
 use Rattle.record_view.specs.Records.{Meaning}
 use Rattle.store_directory.specs.Directory.{Directory, IsDirectory, IsListed, Listed, find_store, put_store}
-use Rattle.store_directory.specs.Rows.{is_lawful_row, is_range}
-use Rattle.store_directory.specs.declared.row.Row.{Row}
 use Rattle.std.specs.List.{list_all}
 use Rattle.store_load.specs.Claims.{is_data, may_share}
 use Rattle.store_load.specs.Each.{each}
@@ -138,12 +135,11 @@ data_found blocks identifier (x ∷ stores) s all is =
     pick deeper false is = deeper is
 
 -- a store of the directory keeps its records
-pub store_keeps : (blocks : ℕ) (image : ℕ → List ℕ) (d : Directory) (identifier now : ℕ) (s : Listed) (records : List Meaning)
-    → IsContent blocks image → IsDirectory d → may_share 240 blocks d.stores ≡ true → find_store identifier d.stores ≡ Some s
+pub listed_keeps : (blocks : ℕ) (image : ℕ → List ℕ) (now : ℕ) (s : Listed) (records : List Meaning)
+    → IsContent blocks image → IsListed s → list_all (is_data blocks) s.links ≡ true
     → kept_of table_rule image now s.row s.links ≡ Some records → Keeps table_rule blocks image now s.row s.links records
-store_keeps blocks image d identifier now s records pages directory share is kept =
-    let listed = listed_found identifier d.stores s directory.stores.each is in
-    let own = own_links blocks s.links (data_found blocks identifier d.stores s (data_links blocks d.stores (shared_links blocks d.stores share)) is) in
+listed_keeps blocks image now s records pages listed in_data kept =
+    let own = own_links blocks s.links in_data in
     let numbers = row_numbers s.row listed.lawful in
     record {
       pages = pages;
@@ -153,3 +149,10 @@ store_keeps blocks image d identifier now s records pages directory share is kep
       each_link = λ k default lt. record { block = own k default lt; first = (listed.fitting k default lt).1 };
       kept = kept;
     }
+
+pub store_keeps : (blocks : ℕ) (image : ℕ → List ℕ) (d : Directory) (identifier now : ℕ) (s : Listed) (records : List Meaning)
+    → IsContent blocks image → IsDirectory d → may_share 240 blocks d.stores ≡ true → find_store identifier d.stores ≡ Some s
+    → kept_of table_rule image now s.row s.links ≡ Some records → Keeps table_rule blocks image now s.row s.links records
+store_keeps blocks image d identifier now s records pages directory share is kept =
+    listed_keeps blocks image now s records pages (listed_found identifier d.stores s directory.stores.each is)
+    (data_found blocks identifier d.stores s (data_links blocks d.stores (shared_links blocks d.stores share)) is) kept

@@ -30,11 +30,11 @@ entry_page changes =
     let text = entry_octets changes in
     big_bytes 4 (length text) ++ text ++ replicate (252 - length text) 0
 
-abbrev at_time : ℕ → Stored
+abbrev pub at_time : ℕ → Stored
 at_time time = record { time = time; octets = packet }
 
 -- a directory of one store, with so many records from this number on
-abbrev listing : (first count : ℕ) → List Link → Directory
+abbrev pub listing : (first count : ℕ) → List Link → Directory
 listing first count links = record {
   now = 5;
   reports = 1;
@@ -47,7 +47,7 @@ listing first count links = record {
 }
 
 -- and its table
-abbrev holding : List Stored → Table
+abbrev pub holding : List Stored → Table
 holding packets = record {
   now = 5;
   reports = 1;

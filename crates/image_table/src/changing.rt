@@ -6,7 +6,7 @@ ghost use Rattle.pst_model.specs.Changes.{is_named};
 ghost use Rattle.pst_model.specs.Table.{Store, Table, content_in};
 ghost use Rattle.record_view.specs.Records.{Meaning, record_at};
 ghost use Rattle.record_view.specs.declared.link.Link.{Link};
-ghost use Rattle.store_directory.specs.Changes.{Clock, Links, Put, Swap};
+ghost use Rattle.store_directory.specs.Changes.{Clock, Links, Put, Swap, apply};
 ghost use Rattle.store_directory.specs.Directory.{Directory, Listed, find_store};
 ghost use Rattle.store_directory.specs.declared.row.Row.{Row};
 ghost use Rattle.store_load.specs.Extents.{end_of, last_of};
@@ -18,7 +18,8 @@ ghost use Rattle.image_table.specs.Table.{stored_of, table_by, table_rule};
 pub fn clocks_go_on()
     ensures { (blocks : ℕ) (image : ℕ → List ℕ) (d : Directory) (table : Table) (now reports : ℕ)
         (next : Directory)
-        → Changes blocks image d table (Clock now reports) next → d.now ≤ now
+        → table_by blocks image d ≡ Some table → apply d (Clock now reports) ≡ Some next
+        → d.now ≤ now
         → table_by blocks image next
         ≡ Some (record table { now = now; reports = reports }) }
 {}

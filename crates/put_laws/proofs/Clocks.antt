@@ -41,15 +41,7 @@ begins blocks image d table stored pages directory loads le low =
         short = omega arith;
         directory = kept;
         loads =
-            clock_goes blocks image d table stored.time reports next
-            (record {
-              pages = pages;
-              directory = directory;
-              loads = loads;
-              applied = applied;
-              lawful = lawful-from_kept next kept;
-              share = (table_loads blocks image d table loads).share;
-            }) le;
+            clock_goes blocks image d table stored.time reports next loads applied le;
         left = refl;
       },
     )

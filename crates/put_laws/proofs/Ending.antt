@@ -98,15 +98,7 @@ idle_ends blocks image d table number moment packet pages directory loads low is
       kept,
       refl,
       ap (λ (o : Option (List Change)). o >>= apply_all d) (changes_in-octets (change ∷ []) fits) ∙ rw applied refl,
-      clock_goes blocks image d table now table.reports next
-          (record {
-            pages = pages;
-            directory = directory;
-            loads = loads;
-            applied = applied;
-            lawful = lawful-from_kept next kept;
-            share = loaded.share;
-          }) (omega (arith, before, grows table.now moment))
+      clock_goes blocks image d table now table.reports next loads applied (omega (arith, before, grows table.now moment))
           ∙ ap Some (sym (idle number moment packet table is)),
     )
   where

@@ -89,19 +89,6 @@ set_again [] at a b = refl
 set_again (y ∷ xs) zero a b = refl
 set_again (y ∷ xs) (suc at) a b = ap (λ (l : List _). y ∷ l) (set_again xs at a b)
 
--- the value of an element at its place
-pub each_at : {A B : Type 0} (f : A → Option B) (xs : List A) (ys : List B) (at : ℕ) (x : A) (y : B)
-    → each f xs ≡ Some ys → slice_get xs at ≡ Some x → slice_get ys at ≡ Some y → f x ≡ Some y
-each_at f [] ys at x y are here there = absurd (none-some x here)
-each_at f (a ∷ xs) ys at x y are here there =
-    let (b, bs, is, rest, whole) = each_cons f a xs ys are in
-    by at b bs is (λ k. each_at f xs bs k x y rest) here (ap (λ (l : List _). slice_get l at) whole ∙ there)
-  where
-    by : (at : ℕ) (b : _) (bs : List _) → f a ≡ Some b → ((k : ℕ) → slice_get xs k ≡ Some x → slice_get bs k ≡ Some y → f x ≡ Some y)
-        → slice_get (a ∷ xs) at ≡ Some x → slice_get (b ∷ bs) at ≡ Some y → f x ≡ Some y
-    by zero b bs is deeper here there = ap f (sym (same_Some a x here)) ∙ is ∙ there
-    by (suc at) b bs is deeper here there = deeper at here there
-
 -- the stores to which a packet was offered, before a store and behind it
 pub offered_here : (stored : Stored) (front : List Store) (store : Store) (back : List Store)
     → offered_to stored (length front) (front ++ store ∷ back) ≡ map (offered stored) front ++ store ∷ back

@@ -1,1 +1,3 @@
 pub mod FirstPicks
+pub mod Firsts
+pub mod Granted

@@ -2,9 +2,11 @@
 //! positions of a store's row where packets are sent or leave, and where its retrievals are set.
 #![tactic(auto)]
 
+mod laws;
 mod pick;
 mod positions;
 
+pub use laws::picks_are_granted;
 pub use pick::{Pick, next_of};
 pub use positions::{after_drop, after_sent, open_from, with_range};
 

@@ -1,6 +1,8 @@
 // The packet that a grant sends.
-ghost use Rattle.std.specs.Prelude.{◌≡◌};
+ghost use Rattle.std.specs.Prelude.{◌≡◌, ◌<◌, All, IfSome, length};
+ghost use Rattle.retrieval.specs.Grants.{IsHeld};
 ghost use Rattle.retrieval.specs.Picks.{first_pick, has_ahead, has_range, open_pick, pick_of, range_pick};
+ghost use Rattle.store_directory.specs.Directory.{IsListed};
 
 use store_directory::{Directory, Row};
 
@@ -19,7 +21,8 @@ pub struct Pick {
 
 // The next packet of the first range.
 fn of_ranges(directory: &Directory) -> Option<Pick>
-    ensures { result ≡ first_pick has_range range_pick 0 directory.now.stores }
+    ensures first { result ≡ first_pick has_range range_pick 0 directory.now.stores }
+    ensures kept { All IsListed directory.now.stores }
 {
     for at in 0..directory.len() {
         let row = directory.row(at);
@@ -62,9 +65,12 @@ fn of_open_retrieval(directory: &Directory) -> Option<Pick>
 
 /// The packet that a grant sends: the next one of the first store with a range; where there is
 /// none, of the first store whose open retrieval is on and has packets ahead. None where there is no
-/// such store either.
+/// such store either. The row of its store and the pick are such as `after_sent` takes.
+#[tactic(auto, using(crate::proofs::Firsts::result_held, crate::proofs::Firsts::result_within))]
 pub fn next_of(directory: &Directory) -> Option<Pick>
-    ensures { result ≡ pick_of directory.now.stores }
+    ensures pick { result ≡ pick_of directory.now.stores }
+    ensures within { IfSome result (λ pick. pick.at < length directory.now.stores) }
+    ensures held { IfSome result (IsHeld directory.now.stores) }
 {
     of_ranges(directory).or_else(|| of_open_retrieval(directory))
 }

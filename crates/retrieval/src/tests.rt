@@ -68,14 +68,16 @@ const LAST: Row = Row {
     range: Some((5, 6)),
 };
 
+// The row of the only store behind a grant; none where it sends nothing, or could not be made.
+fn after_grant(alloc: Global, row: Row) -> Option<Row> {
+    let mut directory = Directory::new(alloc).ok()?;
+    directory.apply(alloc, &Change::Put(row)).ok()?;
+    let pick = next_of(&directory)?;
+    Some(after_sent(directory.row(pick.at), &pick))
+}
+
 #[test]
 fn a_range_ends_behind_its_last_packet(rt: HostRuntime) {
-    let pick = Pick {
-        at: 0,
-        position: 5,
-        channel: 3,
-        range: true,
-    };
-    let row = after_sent(&LAST, &pick);
-    assert!(rt; row.range.is_none() && row.behind == 8);
+    let row = after_grant(rt.alloc(), LAST);
+    assert!(rt; row.is_some_and(|row| row.range.is_none() && row.behind == 8));
 }

@@ -27,6 +27,13 @@ pub record AreTogether (row : Row) (index : TimeIndex) : Type 0 where
   pub count : length index.entries ≡ row.count
   pub size : index.size ≡ row.size
 
+-- each row and the index in its place
+abbrev pub AreAllTogether : List Listed → List TimeIndex → Type 0
+AreAllTogether [] [] = ⊤
+AreAllTogether (listed ∷ rest) (index ∷ indexes) =
+    AreTogether listed.row index × AreAllTogether rest indexes
+AreAllTogether _ _ = ⊥
+
 -- A store, but for its patterns, is shown by a row and an index.
 pub record IsShown (store : Store) (row : Row) (index : TimeIndex) : Type 0 where
   pub identifier : store.identifier ≡ row.identifier
