@@ -7,9 +7,7 @@ use Rattle.pst_model.specs.Table.{Stored, Table}
 use Rattle.store_directory.specs.Changes.{Clock, apply}
 use Rattle.store_directory.specs.Directory.{Directory, IsDirectory}
 use Rattle.store_directory.specs.Entries.{FitsChange}
-use Rattle.store_directory.proofs.Lawful.{lawful-from_kept}
 use Rattle.image_table.specs.Table.{table_by}
-use Rattle.image_table.proofs.Frames.{table_loads}
 use Rattle.image_table.proofs.Puts.{clock_goes}
 use Rattle.put_laws.specs.Walks.{HasOffered, clock_of, reports_behind}
 

@@ -19,7 +19,6 @@ use Rattle.store_directory.specs.Directory.{Directory, IsDirectory}
 use Rattle.store_directory.specs.Entries.{FitsChange, entry_octets}
 use Rattle.store_directory.specs.Folds.{fold_entry}
 use Rattle.store_directory.specs.Options.{◌>>=◌}
-use Rattle.store_directory.proofs.Lawful.{lawful-from_kept}
 use Rattle.store_directory.proofs.WrittenChanges.{changes_in-octets}
 use Rattle.put_laws.proofs.Clocks.{clock_applies}
 use Rattle.put_laws.specs.Walks.{HasOffered, offered_to, table_at}

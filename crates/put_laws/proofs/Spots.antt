@@ -1,5 +1,5 @@
 -- A place in a list, and the list before and behind it.
-use Rattle.std.proofs.Common.{◌≡◌, ℕ, zero, suc, true, false, not, ◌==◌, List, [], ◌∷◌, ◌++◌, length, map, drop, take, slice_set, Option, Some, refl, sym, ◌∙◌, ap}
+use Rattle.std.proofs.Common.{◌≡◌, ℕ, zero, suc, true, false, not, ◌==◌, List, [], ◌∷◌, ◌++◌, length, map, drop, take, slice_set, Some, refl, sym, ◌∙◌, ap}
 use Rattle.std.specs.Prelude.{find, slice_get}
 use Rattle.std.proofs.lemmas.Bool.{and_parts, eq-eqb, not-true}
 use Rattle.std.proofs.lemmas.Option.{none-some, same_Some}
@@ -10,8 +10,6 @@ use Rattle.pst_model.specs.Rules.{at_first}
 use Rattle.pst_model.specs.Table.{Store, Stored}
 use Rattle.store_directory.specs.Directory.{Listed, are_distinct, find_store, identifiers, is_new, put_store}
 use Rattle.store_directory.proofs.Puts.{swapped}
-use Rattle.store_load.specs.Each.{each}
-use Rattle.store_load.proofs.Eachs.{each_cons}
 use Rattle.put_laws.specs.Walks.{offered_to}
 
 pub record Spot {X : Type 0} (xs : List X) (at : ℕ) (x : X) : Type 0 where
