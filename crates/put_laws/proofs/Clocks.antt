@@ -7,9 +7,7 @@ use Rattle.pst_model.specs.Table.{Stored, Table}
 use Rattle.store_directory.specs.Changes.{Clock, apply}
 use Rattle.store_directory.specs.Directory.{Directory, IsDirectory}
 use Rattle.store_directory.specs.Entries.{FitsChange}
-use Rattle.store_directory.proofs.Lawful.{lawful-from_kept}
 use Rattle.image_table.specs.Table.{table_by}
-use Rattle.image_table.proofs.Frames.{table_loads}
 use Rattle.image_table.proofs.Puts.{clock_goes}
 use Rattle.put_laws.specs.Walks.{HasOffered, clock_of, reports_behind}
 
@@ -41,15 +39,7 @@ begins blocks image d table stored pages directory loads le low =
         short = omega arith;
         directory = kept;
         loads =
-            clock_goes blocks image d table stored.time reports next
-            (record {
-              pages = pages;
-              directory = directory;
-              loads = loads;
-              applied = applied;
-              lawful = lawful-from_kept next kept;
-              share = (table_loads blocks image d table loads).share;
-            }) le;
+            clock_goes blocks image d table stored.time reports next loads applied le;
         left = refl;
       },
     )

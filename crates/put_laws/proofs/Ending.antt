@@ -19,7 +19,6 @@ use Rattle.store_directory.specs.Directory.{Directory, IsDirectory}
 use Rattle.store_directory.specs.Entries.{FitsChange, entry_octets}
 use Rattle.store_directory.specs.Folds.{fold_entry}
 use Rattle.store_directory.specs.Options.{◌>>=◌}
-use Rattle.store_directory.proofs.Lawful.{lawful-from_kept}
 use Rattle.store_directory.proofs.WrittenChanges.{changes_in-octets}
 use Rattle.put_laws.proofs.Clocks.{clock_applies}
 use Rattle.put_laws.specs.Walks.{HasOffered, offered_to, table_at}
@@ -98,15 +97,7 @@ idle_ends blocks image d table number moment packet pages directory loads low is
       kept,
       refl,
       ap (λ (o : Option (List Change)). o >>= apply_all d) (changes_in-octets (change ∷ []) fits) ∙ rw applied refl,
-      clock_goes blocks image d table now table.reports next
-          (record {
-            pages = pages;
-            directory = directory;
-            loads = loads;
-            applied = applied;
-            lawful = lawful-from_kept next kept;
-            share = loaded.share;
-          }) (omega (arith, before, grows table.now moment))
+      clock_goes blocks image d table now table.reports next loads applied (omega (arith, before, grows table.now moment))
           ∙ ap Some (sym (idle number moment packet table is)),
     )
   where

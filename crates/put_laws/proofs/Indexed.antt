@@ -1,8 +1,8 @@
 -- Indexes while a packet is offered to stores.
-use Rattle.std.proofs.Common.{◌≡◌, ℕ, suc, ◌+◌, ◌%◌, ◌^◌, false, List, [], ◌∷◌, ◌++◌, length, map, drop, slice_set, Some, length-append, sym, ◌∙◌, ap, subst, arith}
+use Rattle.std.proofs.Common.{◌≡◌, ℕ, zero, suc, ◌+◌, ◌%◌, ◌^◌, false, List, [], ◌∷◌, ◌++◌, length, map, drop, slice_set, Some, length-append, sym, ◌∙◌, ap, subst, arith}
 use Rattle.std.specs.Prelude.{slice_get}
 use Rattle.std.proofs.lemmas.List.{drop-map, length-drop, length-map, map-append}
-use Rattle.std.proofs.lemmas.Option.{same_Some}
+use Rattle.std.proofs.lemmas.Option.{none-some, same_Some}
 use Rattle.image_table.specs.Table.{store_of, store_with, table_by}
 use Rattle.image_table.proofs.Frames.{store_kept, table_loads}
 use Rattle.pst_model.specs.Arrivals.{is_offered, offered}
@@ -13,7 +13,7 @@ use Rattle.store_directory.specs.Directory.{Listed}
 use Rattle.store_directory.specs.declared.row.Row.{Row}
 use Rattle.store_load.specs.Each.{each}
 use Rattle.store_load.proofs.Eachs.{each_cons}
-use Rattle.store_policy.specs.Shown.{AreIndexed, AreShown, AreTogether, IsStoreShown, IsTableShown, length_of, octets_in}
+use Rattle.store_policy.specs.Shown.{AreAllTogether, AreIndexed, AreShown, AreTogether, IsStoreShown, IsTableShown, length_of, octets_in}
 use Rattle.store_policy.specs.declared.view.View.{View}
 use Rattle.time_index.specs.TimeIndex.{TimeIndex, stamp_of}
 use Rattle.time_index.specs.declared.entry.Entry.{Entry}
@@ -168,13 +168,35 @@ refused_indexed stored at table indexes store all shown refuses =
 
 -- a row and its index
 
-pub told_together : (row : Row) (index : TimeIndex) → AreTogether row index → AreTogether (told_row row) index
+told_together : (row : Row) (index : TimeIndex) → AreTogether row index → AreTogether (told_row row) index
 told_together row index together = record { first = together.first; count = together.count; size = together.size }
 
-pub taken_together : (row : Row) (index : TimeIndex) (gone : ℕ) (entry : Entry) → AreTogether row index
+taken_together : (row : Row) (index : TimeIndex) (gone : ℕ) (entry : Entry) → AreTogether row index
     → AreTogether (row_behind_put gone row) (index_behind_put gone entry index)
 taken_together row index gone entry together = record {
   first = ap (λ (n : ℕ). (n + gone) % 2 ^ 32) together.first;
   count = length-append (drop gone index.entries) (entry ∷ []) ∙ omega (arith, length-drop gone index.entries, together.count);
   size = together.size;
 }
+
+-- and those of all stores
+
+pub all_told : (listed : List Listed) (indexes : List TimeIndex) (at : ℕ) (s new : Listed) → AreAllTogether listed indexes → slice_get listed at ≡ Some s
+    → new.row ≡ told_row s.row → AreAllTogether (slice_set listed at new) indexes
+all_told [] indexes at s new all here row = absurd (none-some s here)
+all_told (x ∷ listed) [] at s new all here row = absurd all
+all_told (x ∷ listed) (index ∷ indexes) zero s new all here row =
+    (subst (λ (r : Row). AreTogether r index) (sym row) (told_together s.row index (subst (λ (y : Listed). AreTogether y.row index) (same_Some x s here) all.0)), all.1)
+all_told (x ∷ listed) (index ∷ indexes) (suc at) s new all here row = (all.0, all_told listed indexes at s new all.1 here row)
+
+pub all_taken : (listed : List Listed) (indexes : List TimeIndex) (at : ℕ) (s new : Listed) (index : TimeIndex) (gone : ℕ) (entry : Entry) → AreAllTogether listed indexes
+    → slice_get listed at ≡ Some s → slice_get indexes at ≡ Some index → new.row ≡ row_behind_put gone s.row
+    → AreAllTogether (slice_set listed at new) (slice_set indexes at (index_behind_put gone entry index))
+all_taken [] indexes at s new index gone entry all here there row = absurd (none-some s here)
+all_taken (x ∷ listed) [] at s new index gone entry all here there row = absurd all
+all_taken (x ∷ listed) (first ∷ indexes) zero s new index gone entry all here there row =
+    let own : AreTogether s.row first = subst (λ (y : Listed). AreTogether y.row first) (same_Some x s here) all.0 in
+    let together : AreTogether s.row index = subst (AreTogether s.row) (same_Some first index there) own in
+    (subst (λ (r : Row). AreTogether r (index_behind_put gone entry index)) (sym row) (taken_together s.row index gone entry together), all.1)
+all_taken (x ∷ listed) (first ∷ indexes) (suc at) s new index gone entry all here there row =
+    (all.0, all_taken listed indexes at s new index gone entry all.1 here there row)

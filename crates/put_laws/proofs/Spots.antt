@@ -1,5 +1,5 @@
 -- A place in a list, and the list before and behind it.
-use Rattle.std.proofs.Common.{◌≡◌, ℕ, zero, suc, true, false, not, ◌==◌, List, [], ◌∷◌, ◌++◌, length, map, drop, take, slice_set, Option, Some, refl, sym, ◌∙◌, ap}
+use Rattle.std.proofs.Common.{◌≡◌, ℕ, zero, suc, true, false, not, ◌==◌, List, [], ◌∷◌, ◌++◌, length, map, drop, take, slice_set, Some, refl, sym, ◌∙◌, ap}
 use Rattle.std.specs.Prelude.{find, slice_get}
 use Rattle.std.proofs.lemmas.Bool.{and_parts, eq-eqb, not-true}
 use Rattle.std.proofs.lemmas.Option.{none-some, same_Some}
@@ -10,8 +10,6 @@ use Rattle.pst_model.specs.Rules.{at_first}
 use Rattle.pst_model.specs.Table.{Store, Stored}
 use Rattle.store_directory.specs.Directory.{Listed, are_distinct, find_store, identifiers, is_new, put_store}
 use Rattle.store_directory.proofs.Puts.{swapped}
-use Rattle.store_load.specs.Each.{each}
-use Rattle.store_load.proofs.Eachs.{each_cons}
 use Rattle.put_laws.specs.Walks.{offered_to}
 
 pub record Spot {X : Type 0} (xs : List X) (at : ℕ) (x : X) : Type 0 where
@@ -88,19 +86,6 @@ pub set_again : {X : Type 0} (xs : List X) (at : ℕ) (a b : X) → slice_set (s
 set_again [] at a b = refl
 set_again (y ∷ xs) zero a b = refl
 set_again (y ∷ xs) (suc at) a b = ap (λ (l : List _). y ∷ l) (set_again xs at a b)
-
--- the value of an element at its place
-pub each_at : {A B : Type 0} (f : A → Option B) (xs : List A) (ys : List B) (at : ℕ) (x : A) (y : B)
-    → each f xs ≡ Some ys → slice_get xs at ≡ Some x → slice_get ys at ≡ Some y → f x ≡ Some y
-each_at f [] ys at x y are here there = absurd (none-some x here)
-each_at f (a ∷ xs) ys at x y are here there =
-    let (b, bs, is, rest, whole) = each_cons f a xs ys are in
-    by at b bs is (λ k. each_at f xs bs k x y rest) here (ap (λ (l : List _). slice_get l at) whole ∙ there)
-  where
-    by : (at : ℕ) (b : _) (bs : List _) → f a ≡ Some b → ((k : ℕ) → slice_get xs k ≡ Some x → slice_get bs k ≡ Some y → f x ≡ Some y)
-        → slice_get (a ∷ xs) at ≡ Some x → slice_get (b ∷ bs) at ≡ Some y → f x ≡ Some y
-    by zero b bs is deeper here there = ap f (sym (same_Some a x here)) ∙ is ∙ there
-    by (suc at) b bs is deeper here there = deeper at here there
 
 -- the stores to which a packet was offered, before a store and behind it
 pub offered_here : (stored : Stored) (front : List Store) (store : Store) (back : List Store)

@@ -24,10 +24,11 @@ use Rattle.store_load.specs.Kept.{kept_of}
 use Rattle.store_load.proofs.Eachs.{each_cons}
 use Rattle.image_table.specs.Going.{table_put, with_row}
 use Rattle.image_table.specs.Table.{store_of, store_with, table_by, table_rule}
+use Rattle.image_table.proofs.Placed.{each_at}
 use Rattle.image_table.proofs.Frames.{Loads, store_kept, table_loads}
 use Rattle.put_laws.specs.Puts.{Begins, Outcome, Stays, Takes, Tells, changes_of_put, is_unnamed, listed_behind}
 use Rattle.put_laws.specs.Walks.{HasGoneOn, HasOffered, IsOther, IsTurn, offered_to, table_at}
-use Rattle.put_laws.proofs.Spots.{Spot, drop_more, drop_past, each_at, find_here, first_here, get_here, get_left, offered_here, offered_next, spot}
+use Rattle.put_laws.proofs.Spots.{Spot, drop_more, drop_past, find_here, first_here, get_here, get_left, offered_here, offered_next, spot}
 
 -- the stores of a table have the identifiers of those of its directory
 names_same : (image : ℕ → List ℕ) (now : ℕ) (listed : List Listed) (stores : List Store) → each (store_of image now) listed ≡ Some stores

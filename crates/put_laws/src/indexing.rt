@@ -3,8 +3,8 @@ ghost use Rattle.std.specs.Prelude.{◌≡◌, ◌≤◌, ◌+◌, false, ℕ, L
 ghost use Rattle.image_table.specs.Table.{table_by};
 ghost use Rattle.pst_model.specs.Arrivals.{is_offered};
 ghost use Rattle.pst_model.specs.Table.{Store, Stored, Table};
-ghost use Rattle.store_directory.specs.declared.row.Row.{Row};
-ghost use Rattle.store_policy.specs.Shown.{AreTogether, IsTableShown};
+ghost use Rattle.store_directory.specs.Directory.{Listed};
+ghost use Rattle.store_policy.specs.Shown.{AreAllTogether, IsTableShown};
 ghost use Rattle.store_policy.specs.declared.view.View.{View};
 ghost use Rattle.time_index.specs.TimeIndex.{TimeIndex};
 ghost use Rattle.time_index.specs.declared.entry.Entry.{Entry};
@@ -36,13 +36,18 @@ pub fn indexes_go_on()
         (slice_set indexes at (index_behind_put gone entry index)) }
 {}
 
-/// The row and the index of a store stay together.
+/// The rows of a directory and the indexes stay together, if a store tells a refusal, and if it takes
+/// the packet.
 pub fn rows_and_indexes_stay_together()
-    ensures told { (row : Row) (index : TimeIndex) → AreTogether row index
-        → AreTogether (told_row row) index }
-    ensures taken { (row : Row) (index : TimeIndex) (gone : ℕ) (entry : Entry)
-        → AreTogether row index
-        → AreTogether (row_behind_put gone row) (index_behind_put gone entry index) }
+    ensures told { (listed : List Listed) (indexes : List TimeIndex) (at : ℕ) (s new : Listed)
+        → AreAllTogether listed indexes → slice_get listed at ≡ Some s
+        → new.row ≡ told_row s.row → AreAllTogether (slice_set listed at new) indexes }
+    ensures taken { (listed : List Listed) (indexes : List TimeIndex) (at : ℕ) (s new : Listed)
+        (index : TimeIndex) (gone : ℕ) (entry : Entry) → AreAllTogether listed indexes
+        → slice_get listed at ≡ Some s → slice_get indexes at ≡ Some index
+        → new.row ≡ row_behind_put gone s.row
+        → AreAllTogether (slice_set listed at new)
+        (slice_set indexes at (index_behind_put gone entry index)) }
 {}
 
 /// A view shows the table that the image holds of its directory, if its indexes list the packets.
