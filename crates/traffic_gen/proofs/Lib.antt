@@ -1,0 +1,5 @@
+mod Behind
+mod Counting
+mod LineLengths
+mod Pieces
+mod Texts

@@ -1,2 +1,4 @@
 pub mod Lines
+pub mod Meaning
+pub mod Steps
 pub mod Traffic

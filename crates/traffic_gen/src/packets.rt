@@ -1,11 +1,10 @@
 // The packets of arrivals.
 ghost use Rattle.std.specs.Prelude.{◌≡◌, ◌+◌, ◌-◌, ◌%◌, ◌≤◌, ◌<◌, ◌^◌, ◌++◌, ◌∷◌, [], map, length, drop};
-ghost use Rattle.std.specs.List.{range_with_len};
 ghost use Rattle.octet_fields.specs.Fields.{Writes, big_bytes};
 ghost use Rattle.space_packet.specs.Header.{header_of};
-ghost use Rattle.traffic_gen.specs.Traffic.{arrival_packet, length_by, service_by, subtype_by, time_of};
+ghost use Rattle.traffic_gen.specs.Traffic.{arrival_packet, counting, length_by, service_by, subtype_by, time_of};
 
-use octet_fields::{put_u8, put_u48};
+use octet_fields::{put_u8, put_u16, put_u48};
 use space_packet::{Primary, UNSEGMENTED, write_primary};
 
 /// The most octets of a packet.
@@ -46,7 +45,7 @@ fn write_body(number: u32, count: usize, out: &mut [u8])
     requires room { 19 + count ≤ length out.old }
     requires few { count ≤ 1081 }
     requires number { number < 100000 }
-    ensures { Writes out.old out.new 19 (map (λ j. (number + j) % 256) (range_with_len 0 count)) }
+    ensures { Writes out.old out.new 19 (counting number count) }
 {
     for j in 0..count {
         out[HEADERS + j] = ((number as usize + j) % 256) as u8;
@@ -74,10 +73,8 @@ pub fn write_arrival(number: u32, a: u32, b: u32, c: u32, out: &mut [u8]) -> usi
     put_u8(out, 6, 32);
     put_u8(out, 7, service);
     put_u8(out, 8, subtype);
-    put_u8(out, 9, 0);
-    put_u8(out, 10, 0);
-    put_u8(out, 11, 0);
-    put_u8(out, 12, 0);
+    put_u16(out, 9, 0);
+    put_u16(out, 11, 0);
     put_u48(out, 13, time_of(number));
     write_body(number, length - HEADERS, out);
     length

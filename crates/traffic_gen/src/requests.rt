@@ -34,6 +34,7 @@ fn put_request(count: u16, moment: u64, items: &[Instruction], out: &mut [u8], a
 /// Puts the lines of the first requests at the front of `out`, and answers the place behind them.
 pub fn put_setup(out: &mut [u8]) -> usize
     requires { 5400 ≤ length out.old }
+    ensures few { result ≤ 5400 }
     ensures end { result ≡ length (text_of setup) }
     ensures lines { Writes out.old out.new 0 (text_of setup) }
 {

@@ -76,8 +76,8 @@ impl Plain {
     // The retrieval of a store, with this sequence count.
     fn push_range(&mut self, moment: u64, count: u8, store: u8) -> Result<(), AllocError> {
         let mut packet = [
-            0x18, 0x0a, 0xc0, count, 0, 19, 0x29, 15, 9, 0, 0, 1, 0, store, 0, 0, 0, 1, 0, 0, 0, 0, 0,
-            0, 0, 0,
+            0x18, 0x0a, 0xc0, count, 0, 19, 0x29, 15, 9, 0, 0, 1, 0, store, 0, 0, 0, 1, 0, 0, 0, 0,
+            0, 0, 0, 0,
         ];
         packet[20..].copy_from_slice(&moment.to_be_bytes()[2..]);
         self.push_packet(b'R', moment, &packet)

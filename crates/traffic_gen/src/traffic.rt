@@ -1,13 +1,8 @@
 // The traffic as a source.
-ghost use Rattle.std.specs.Prelude.{◌≡◌, ◌≤◌, ◌<◌, ◌+◌, ◌*◌, ◌^◌, if◌then◌else◌, [], length};
-ghost use Rattle.octet_fields.specs.Fields.{Writes};
-ghost use Rattle.traffic_gen.specs.Lines.{text_of, timed_line, command_line};
-ghost use Rattle.traffic_gen.specs.Traffic.{pass, retrieval, where_so};
+ghost use Rattle.std.specs.Prelude.{◌≡◌, ◌≤◌, ◌<◌, ◌+◌, ◌-◌, ◌*◌, ◌++◌, ◌↔◌, [], length, min, take, IfOk, IsOk, IsTrue, OnErr, OnOk};
+ghost use Rattle.board.specs.Counts.{Rose};
 
-use crate::draws::{draw, drawn};
-use crate::lines::{put_packet, put_timed};
-use crate::packets::{LARGEST, time_of, write_arrival};
-use crate::requests::{put_retrieval, put_setup};
+use crate::passes::{next_state, put_next};
 use board::{Failed, Source};
 
 /// The octets of the lines that are made at once, at most.
@@ -32,72 +27,16 @@ pub struct Traffic {
     ghost size: { length lines ≡ 5400 },
 }
 
-// Puts the line of a command that has a time alone where the test holds, and answers the place behind it.
-fn put_where(so: bool, letter: u8, moment: u64, out: &mut [u8], at: usize) -> usize
-    requires moment { moment < 2 ^ 48 }
-    requires room { at + 15 ≤ length out.old }
-    ensures few { result ≤ at + 15 }
-    ensures end { result ≡ at + length (if so then timed_line letter moment else []) }
-    ensures line { Writes out.old out.new at (if so then timed_line letter moment else []) }
-{
-    if so {
-        put_timed(letter, moment, out, at)
-    } else {
-        at
-    }
-}
-
-// Puts the retrieval of a store where the test holds, and answers the place behind it.
-fn put_retrieval_where(
-    so: bool,
-    number: u32,
-    count: u16,
-    store: u16,
-    out: &mut [u8],
-    at: usize,
-) -> usize
-    requires number { number < 100000 }
-    requires count { count < 16384 }
-    requires room { at + 1064 ≤ length out.old }
-    ensures few { result ≤ at + 1064 }
-    ensures end { result ≡ at + length (text_of (where_so so (retrieval number count store))) }
-    ensures line { Writes out.old out.new at (text_of (where_so so (retrieval number count store))) }
-{
-    if so {
-        put_retrieval(number, count, store, out, at)
-    } else {
-        at
-    }
-}
-
-// Puts the lines of the arrival with this number, of so many, by the draws from this state on, at the front of `out`, and
-// answers the place behind them.
-fn put_pass(total: u32, number: u32, state: u64, out: &mut [u8]) -> usize
-    requires number { number < total }
-    requires few { total ≤ 100000 }
-    requires room { 5400 ≤ length out.old }
-    ensures few { result ≤ 5400 }
-    ensures end { result ≡ length (text_of (pass total number state)) }
-    ensures lines { Writes out.old out.new 0 (text_of (pass total number state)) }
-{
-    let first = draw(state);
-    let second = draw(first);
-    let third = draw(second);
-    let mut packet = [0; LARGEST];
-    let length = write_arrival(number, drawn(first), drawn(second), drawn(third), &mut packet);
-    let moment = time_of(number);
-    let end = put_packet(b'A', moment, &packet[..length], out, 0);
-    let end = put_where(number % 4 == 3, b'G', moment, out, end);
-    let end = put_where(number % 64 == 63, b'I', moment, out, end);
-    let end = put_retrieval_where(number == total / 2, number, 5, 2, out, end);
-    put_retrieval_where(number == total - 1, number, 6, 3, out, end)
-}
-
 impl Traffic {
+    ghost use Rattle.traffic_gen.specs.Lines.{text_of};
+    ghost use Rattle.traffic_gen.specs.Meaning.{IsNewTraffic, left_of};
+    ghost use Rattle.traffic_gen.specs.Steps.{behind};
+
     /// The traffic of a number, with so many arrivals, 1 to 100,000.
     pub fn new(number: u64, total: u32) -> Traffic
         requires some { 1 ≤ total }
         requires few { total ≤ 100000 }
+        ensures { IsNewTraffic number total result }
     {
         Traffic {
             total,
@@ -111,38 +50,68 @@ impl Traffic {
     }
 
     // Makes the lines that come next, or none at the end.
-    fn make_lines(&mut self) {
+    fn make_lines(&mut self)
+        ensures left { left_of self.new ≡ text_of (behind self.old.total self.old.state self.old.made) }
+        ensures some { self.new.to ≡ self.new.from → left_of self.new ≡ [] }
+        ensures takes { self.new.takes ≡ self.old.takes }
+    {
         self.from = 0;
-        if self.made == 0 {
-            self.to = put_setup(&mut self.lines);
-        } else if self.made <= self.total {
-            self.to = put_pass(self.total, self.made - 1, self.state, &mut self.lines);
-            self.state = draw(draw(draw(self.state)));
-        } else if self.made <= 2 * self.total {
-            self.to = put_timed(b'G', time_of(self.total), &mut self.lines, 0);
-        } else {
-            self.to = 0;
-            return;
+        self.to = put_next(self.total, self.made, self.state, &mut self.lines);
+        self.state = next_state(self.total, self.made, self.state);
+        self.made = (self.made + 1).min(2 * self.total + 1);
+    }
+
+    // Has some of the lines at hand, where any are left.
+    fn refill(&mut self)
+        ensures left { left_of self.new ≡ left_of self.old }
+        ensures some { self.new.to ≡ self.new.from → left_of self.new ≡ [] }
+        ensures takes { self.new.takes ≡ self.old.takes }
+    {
+        if self.from == self.to {
+            self.make_lines();
         }
-        self.made += 1;
+    }
+
+    // Moves the first octets at hand into the front of `into`, and answers how many.
+    fn hand_out(&mut self, into: &mut [u8]) -> usize
+        ensures count { result ≡ min (length into.old) (self.old.to - self.old.from) }
+        ensures moved { left_of self.old ≡ take result into.new ++ left_of self.new }
+        ensures takes { self.new.takes ≡ self.old.takes }
+    {
+        let count = into.len().min(self.to - self.from);
+        into[..count].copy_from_slice(&self.lines[self.from..self.from + count]);
+        self.from += count;
+        count
     }
 }
 
 impl Source for Traffic {
-    ghost use Rattle.std.specs.Prelude.{◌++◌, slice_range, true};
-    ghost use Rattle.traffic_gen.specs.Lines.{text_of};
-    ghost use Rattle.traffic_gen.specs.Traffic.{behind};
+    ghost use Rattle.traffic_gen.specs.Meaning.{faults_of, left_of, takes_made, tells_left, traffic_means};
 
-    ghost means = { record { tells = λ traffic. true; left = λ traffic. slice_range traffic.lines traffic.from traffic.to ++ text_of (behind traffic.total traffic.state traffic.made); faults = λ traffic. 0; takes = λ traffic. traffic.takes } };
+    ghost means = { traffic_means };
 
-    fn take(&mut self, into: &mut [u8]) -> Result<usize, Failed> {
+    fn take(&mut self, into: &mut [u8]) -> Result<usize, Failed>
+        requires { 0 < length into.old }
+        ensures count { IfOk result (λ count. count ≤ length into.old) }
+        ensures moved { IfOk result (λ count. IsTrue (tells_left self.old)
+            → left_of self.old ≡ take count into.new ++ left_of self.new) }
+        ensures end { IfOk result (λ count. IsTrue (tells_left self.old)
+            → (count ≡ 0) ↔ (left_of self.old ≡ [])) }
+        ensures failed { OnErr result (IsTrue (tells_left self.old)
+            → left_of self.new ≡ left_of self.old) }
+        ensures same { tells_left self.new ≡ tells_left self.old }
+        ensures faults { faults_of self.old ≤ faults_of self.new }
+        ensures takes { (takes_made self.old ≤ takes_made self.new) × (takes_made self.new ≤ takes_made self.old + 1) }
+        ensures counted { OnOk result (Rose (takes_made self.old) (takes_made self.new)) }
+        ensures no_fault { OnOk result (faults_of self.new ≡ faults_of self.old) }
+        ensures cause { OnErr result (Rose (faults_of self.old) (faults_of self.new)) }
+
+        // It never fails.
+        ensures always { IsOk result }
+    {
         self.takes = self.takes.saturating_add(1);
-        if self.from == self.to {
-            self.make_lines();
-        }
-        let count = into.len().min(self.to - self.from);
-        into[..count].copy_from_slice(&self.lines[self.from..self.from + count]);
-        self.from += count;
+        self.refill();
+        let count = self.hand_out(into);
         Ok(count)
     }
 }

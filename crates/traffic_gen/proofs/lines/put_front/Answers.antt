@@ -1,5 +1,4 @@
-use Rattle.std.proofs.Common.{arith, length-append}
-use Rattle.octet_fields.specs.Fields.{big_bytes}
+use Rattle.std.proofs.Common.{arith}
 use Rattle.octet_fields.proofs.Splices.{Writes-at_front, Writes-then}
 use Rattle.traffic_gen.proofs.lines.put_front.Goals as goal
 
