@@ -1,5 +1,10 @@
 mod Behind
+mod CommandCounts
 mod Counting
+mod LawfulTraffic
 mod LineLengths
+mod Octets
 mod Pieces
+mod ReadBack
+mod ReadLines
 mod Texts

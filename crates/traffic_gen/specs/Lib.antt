@@ -1,3 +1,4 @@
+pub mod Lawful
 pub mod Lines
 pub mod Meaning
 pub mod Steps

@@ -7,12 +7,14 @@
 #![tactic(auto)]
 
 mod draws;
+mod laws;
 mod lines;
 mod packets;
 mod passes;
 mod requests;
 mod traffic;
 
+pub use laws::traffic_reads_back;
 pub use traffic::Traffic;
 
 #[cfg(test)]
