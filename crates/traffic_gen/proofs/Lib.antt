@@ -7,4 +7,5 @@ mod Octets
 mod Pieces
 mod ReadBack
 mod ReadLines
+mod Rows
 mod Texts
