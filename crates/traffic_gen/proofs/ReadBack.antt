@@ -1,5 +1,5 @@
 -- The text of lawful commands is read back as they are, with no bad line.
-use Rattle.std.proofs.Common.{◌≡◌, ℕ, ◌+◌, ◌≤◌, true, false, List, [], ◌∷◌, ◌++◌, length, min, Some, None, Ok, refl, ap, ◌∙◌, append_assoc, arith, length-append}
+use Rattle.std.proofs.Common.{◌≡◌, ℕ, ◌+◌, ◌*◌, ◌≤◌, true, false, List, [], ◌∷◌, ◌++◌, length, min, Some, None, Ok, refl, ap, ◌∙◌, append_assoc, arith, length-append}
 use Rattle.std.proofs.lemmas.Bool.{le-ltb}
 use Rattle.hex.specs.Hex.{encode_lower, lower_digits}
 use Rattle.hex.proofs.HexLemmas.{length-encode_with}
@@ -66,3 +66,12 @@ none-bad limit place number (command ∷ commands) lawful within =
     ap (first_bad_from limit place number) (lines-behind command commands lawful.0)
     ∙ ap (λ (reading : Reading). bad_by number reading rest) (says limit place command lawful.0 (omega arith))
     ∙ none-bad limit (place + size_of (ended command)) (number + 1) commands lawful.1 (omega arith)
+
+-- the text of lawful commands is not longer than this
+pub length-lawful : (commands : List Command) → AreLawful commands → length (text_of commands) ≤ 131201 * length commands
+length-lawful [] lawful = omega arith
+length-lawful (command ∷ commands) lawful =
+    let here = short-line command lawful.0 in
+    let long = length-behind command commands in
+    let rest = length-lawful commands lawful.1 in
+    omega arith

@@ -1,8 +1,10 @@
 // The text against a plain recomputation.
+ghost use Rattle.std.specs.Prelude.{◌≤◌};
 
 use super::*;
 use board::Source;
 use std::alloc::{AllocError, Global};
+use std::process::Abort;
 use std::test::Fail;
 
 // The text, recomputed.
@@ -121,7 +123,8 @@ fn recomputed(alloc: Global, number: u64, total: u64) -> Result<Vec<u8>, AllocEr
 
 // The text that is taken, at most so many octets at a time.
 fn taken(alloc: Global, number: u64, total: u32, most: usize) -> Result<Vec<u8>, Fail>
-    requires { (1 ≤ total) × (total ≤ 100000) }
+    requires some { 1 ≤ total }
+    requires few { total ≤ 100000 }
 {
     let mut traffic = Traffic::new(number, total);
     let mut text = Vec::new(alloc);
@@ -136,17 +139,26 @@ fn taken(alloc: Global, number: u64, total: u32, most: usize) -> Result<Vec<u8>,
     Ok(text)
 }
 
+// The text that is taken is the one that is recomputed, however it is cut.
+fn agrees(rt: &impl Abort, alloc: Global, number: u64, total: u32) -> Result<(), Fail>
+    requires some { 1 ≤ total }
+    requires few { total ≤ 100000 }
+{
+    let wanted = recomputed(alloc, number, u64::from(total))?;
+    for most in [1, 100, 4096] {
+        let text = taken(alloc, number, total, most)?;
+        assert!(rt; text == wanted, "{number} {total} by {most}");
+    }
+    Ok(())
+}
+
 #[test]
 fn the_text_is_that_of_a_plain_recomputation(rt: HostRuntime) -> Result<(), Fail> {
     let alloc = rt.alloc();
-    for (number, total) in [(7, 1), (0, 3), (u64::MAX, 130), (7, 400)] {
-        let wanted = recomputed(alloc, number, u64::from(total))?;
-        for most in [1, 100, 4096] {
-            let text = taken(alloc, number, total, most)?;
-            assert!(rt; text == wanted, "{number} {total} by {most}");
-        }
-    }
-    Ok(())
+    agrees(&rt, alloc, 7, 1)?;
+    agrees(&rt, alloc, 0, 3)?;
+    agrees(&rt, alloc, u64::MAX, 130)?;
+    agrees(&rt, alloc, 7, 400)
 }
 
 #[test]
