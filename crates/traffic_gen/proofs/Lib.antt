@@ -1,0 +1,11 @@
+mod Behind
+mod CommandCounts
+mod Counting
+mod LawfulTraffic
+mod LineLengths
+mod Octets
+mod Pieces
+mod ReadBack
+mod ReadLines
+mod Rows
+mod Texts
