@@ -1,5 +1,6 @@
 -- One record of a store, read from the flash.
-use Rattle.std.specs.Prelude.{◌≡◌, ◌≢◌, ◌<◌, ⊤, ℕ, ◌+◌, ◌%◌, ◌^◌, is_ok, List, length, slice_get, Option, Some, None, Result, Ok, Err}
+use Rattle.std.specs.Prelude.{◌≡◌, ◌≢◌, ◌<◌, ⊤, ℕ, ◌+◌, ◌%◌, ◌^◌, is_ok}
+use Rattle.std.specs.Prelude.{List, length, slice_get, Option, Some, None, Result, Ok, Err}
 use Rattle.std.specs.Option.{IsSomeAnd}
 use Rattle.chain_log.specs.declared.place.LoadFault.{LoadFault}
 use Rattle.chain_log.specs.declared.place.LoadFault.TheVariants as loads
