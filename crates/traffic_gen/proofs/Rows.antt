@@ -1,5 +1,5 @@
 -- Small worked inputs, which the definitions compute.
-use Rattle.std.proofs.Common.{◌≡◌, ℕ, List, [], ◌∷◌, ◌++◌, codes, length, take, refl}
+use Rattle.std.proofs.Common.{◌≡◌, [], ◌∷◌, ◌++◌, codes, length, take, refl}
 use Rattle.hex.proofs.OnLiterals.{hex_on_literals}
 use Rattle.traffic_gen.specs.Lawful.{commands_in}
 use Rattle.traffic_gen.specs.Lines.{text_of}

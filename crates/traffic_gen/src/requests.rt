@@ -3,7 +3,7 @@ ghost use Rattle.std.specs.Prelude.{◌≡◌, ◌+◌, ◌≤◌, ◌<◌, ◌^
 ghost use Rattle.octet_fields.specs.Fields.{Writes};
 ghost use Rattle.pst_model.specs.Requests.{AreAsked, request_packet, service_of_items, subtype_of_items};
 ghost use Rattle.traffic_gen.specs.Lines.{command_line, text_of};
-ghost use Rattle.traffic_gen.specs.Traffic.{asking, retrieval, setup};
+ghost use Rattle.traffic_gen.specs.Traffic.{asking, making, retrieval, setup, typing};
 
 use crate::lines::put_packet;
 use crate::packets::time_of;
@@ -31,12 +31,12 @@ fn put_request(count: u16, moment: u64, items: &[Instruction], out: &mut [u8], a
     put_packet(b'R', moment, &packet[..size], out, at)
 }
 
-/// Puts the lines of the first requests at the front of `out`, and answers the place behind them.
-pub fn put_setup(out: &mut [u8]) -> usize
-    requires { 5400 ≤ length out.old }
-    ensures few { result ≤ 5400 }
-    ensures end { result ≡ length (text_of setup) }
-    ensures lines { Writes out.old out.new 0 (text_of setup) }
+// Puts the line of the request that makes the stores at the front of `out`, and answers the place behind it.
+fn put_making(out: &mut [u8]) -> usize
+    requires { 1064 ≤ length out.old }
+    ensures few { result ≤ 1064 }
+    ensures end { result ≡ length (command_line making) }
+    ensures line { Writes out.old out.new 0 (command_line making) }
 {
     let made = [
         Instruction::Create {
@@ -58,6 +58,17 @@ pub fn put_setup(out: &mut [u8]) -> usize
             channel: 4,
         },
     ];
+    put_request(0, FIRST, &made, out, 0)
+}
+
+// Puts the line of the request that gives the stores their patterns at `at`, and answers the place behind it. The rest
+// stays.
+fn put_typing(out: &mut [u8], at: usize) -> usize
+    requires { at + 1064 ≤ length out.old }
+    ensures few { result ≤ at + 1064 }
+    ensures end { result ≡ at + length (command_line typing) }
+    ensures line { Writes out.old out.new at (command_line typing) }
+{
     let typed = [
         Instruction::AddTypes {
             store: 2,
@@ -72,6 +83,16 @@ pub fn put_setup(out: &mut [u8]) -> usize
             pattern: Pattern::Kind(102, 5, 2),
         },
     ];
+    put_request(1, FIRST, &typed, out, at)
+}
+
+/// Puts the lines of the first requests at the front of `out`, and answers the place behind them.
+pub fn put_setup(out: &mut [u8]) -> usize
+    requires { 5400 ≤ length out.old }
+    ensures few { result ≤ 5400 }
+    ensures end { result ≡ length (text_of setup) }
+    ensures lines { Writes out.old out.new 0 (text_of setup) }
+{
     let enabled = [
         Instruction::Enable(2),
         Instruction::Enable(3),
@@ -79,8 +100,8 @@ pub fn put_setup(out: &mut [u8]) -> usize
     ];
     let forwarded = [Instruction::ForwardAdd(Pattern::Service(103, 5))];
     let resumed = [Instruction::Resume(2)];
-    let end = put_request(0, FIRST, &made, out, 0);
-    let end = put_request(1, FIRST, &typed, out, end);
+    let end = put_making(out);
+    let end = put_typing(out, end);
     let end = put_request(2, FIRST, &enabled, out, end);
     let end = put_request(3, FIRST, &forwarded, out, end);
     put_request(4, FIRST, &resumed, out, end)

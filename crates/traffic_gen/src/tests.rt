@@ -121,22 +121,27 @@ fn recomputed(alloc: Global, number: u64, total: u64) -> Result<Vec<u8>, AllocEr
     Ok(plain.text)
 }
 
-// The text that is taken, at most so many octets at a time.
-fn taken(alloc: Global, number: u64, total: u32, most: usize) -> Result<Vec<u8>, Fail>
-    requires some { 1 ≤ total }
-    requires few { total ≤ 100000 }
-{
-    let mut traffic = Traffic::new(number, total);
+// The text of a source, at most so many octets at a time.
+fn drained(alloc: Global, source: &mut impl Source, most: usize) -> Result<Vec<u8>, Fail> {
     let mut text = Vec::new(alloc);
     let mut piece = [0; 4096];
     for _ in 0..u32::MAX {
-        let count = traffic.take(&mut piece[..most.min(4096).max(1)])?;
+        let count = source.take(&mut piece[..most.min(4096).max(1)])?;
         if count == 0 {
             break;
         }
         text.extend_from_slice(&piece[..count])?;
     }
     Ok(text)
+}
+
+// The text of the traffic of a number, taken in pieces of so many octets at most.
+fn taken(alloc: Global, number: u64, total: u32, most: usize) -> Result<Vec<u8>, Fail>
+    requires some { 1 ≤ total }
+    requires few { total ≤ 100000 }
+{
+    let mut traffic = Traffic::new(number, total);
+    drained(alloc, &mut traffic, most)
 }
 
 // The text that is taken is the one that is recomputed, however it is cut.

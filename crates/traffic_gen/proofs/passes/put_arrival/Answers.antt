@@ -1,4 +1,4 @@
-use Rattle.std.proofs.Common.{◌≡◌, ◌+◌, ℕ, List, length, take, ap, subst, ◌∙◌, arith}
+use Rattle.std.proofs.Common.{◌≡◌, ℕ, List, length, take, ap, subst, ◌∙◌, arith}
 use Rattle.octet_fields.specs.Fields.{Writes}
 use Rattle.traffic_gen.specs.Lines.{packet_line}
 use Rattle.traffic_gen.specs.Traffic.{after_draws, draw, drawn, drawn_packet, time_of}
