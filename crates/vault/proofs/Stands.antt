@@ -1,8 +1,9 @@
 -- A vault that was loaded stands for the table of the flash.
-use Rattle.std.proofs.Common.{◌≡◌, ℕ, Bool, true, false, List, [], ◌∷◌, ◌++◌, length, take, Option, Some, None, Result, Ok, Err, sym, ◌∙◌, ap, subst, arith}
+use Rattle.std.proofs.Common.{◌≡◌, ℕ, Bool, true, false, List, [], ◌∷◌, ◌++◌, length, take, Option, Some, None, Result, Ok, Err, sym, ◌∙◌, ap, subst, arith, zero, suc, get_or, replicate, refl}
 use Rattle.std.specs.Prelude.{IfOk, OnOk}
 use Rattle.std.proofs.lemmas.Bool.{false≢true}
 use Rattle.std.proofs.lemmas.List.{take-append-le}
+use Rattle.block_pool.specs.Blocks.{Blocks, is_ready, new_pool}
 use Rattle.board.specs.Flash.{Flash, IsContent}
 use Rattle.image_table.proofs.Standing.{table_here}
 use Rattle.image_table.specs.Table.{table_by, table_of}
@@ -61,6 +62,15 @@ clean_behind : (flash : Flash) (links : List Link) (used : ℕ) (stale : Bool) �
 clean_behind flash [] used stale is not_stale = tt
 clean_behind flash (link ∷ links) used stale is not_stale = absurd (false≢true (sym not_stale ∙ is))
 
+unready : (n block : ℕ) → get_or (replicate n false) block false ≡ false
+unready zero block = refl
+unready (suc n) zero = refl
+unready (suc n) (suc block) = unready n block
+
+-- no block is ready at first
+none_ready : (pool : Blocks) (blocks block : ℕ) → pool.ready ≡ (new_pool blocks).ready → is_ready pool block ≡ false
+none_ready pool blocks block is = ap (λ (marks : List Bool). get_or marks block false) is ∙ unready blocks block
+
 module _ (told : Type 0) (yes : told) (blocks : ℕ) (wear : List ℕ) (d : Kept) (journal : journals.Kept) (vault : InMemory) (flash : Flash)
     (loaded : IsLoadedVault told flash.content blocks wear d journal vault) where
   lawful : is_lawful vault.directory.directory ≡ true
@@ -102,6 +112,7 @@ module _ (told : Type 0) (yes : told) (blocks : ℕ) (wear : List ℕ) (d : Kept
             clean = clean_behind flash s.links last.used last.stale one.stale_is;
           })
           vault.directory.stores vault.indexes vault.lasts loaded.stores;
+      ready = λ block marked. absurd (false≢true (sym (none_ready vault.pool (length wear) block loaded.ready_is) ∙ marked));
       firm_journal = λ p low. firm p;
       firm_records = λ p there. firm p;
     },
@@ -113,6 +124,7 @@ pub fresh_of : (told : Type 0) (image : ℕ → List ℕ) (blocks : ℕ) (wear :
 fresh_of told image blocks wear d journal vault loaded room = record {
   is_open = loaded.is_open;
   room = ap (λ (j : journals.Kept). j.room) loaded.journal_is ∙ room;
+  none_ready = λ block. none_ready vault.pool (length wear) block loaded.ready_is;
   stale =
       each_gives (IsLoadedStore told image vault.directory.now) IsStaleStore (λ s index last one. one.stale_is)
       vault.directory.stores vault.indexes vault.lasts loaded.stores;

@@ -38,6 +38,7 @@ still_stands vault flash table held is_open stands = record {
   shows = λ view is. stands.shows view (record { directory = is.directory; indexes = is.indexes; blocks = is.blocks });
   journal = stands.journal;
   stores = stands.stores;
+  ready = stands.ready;
   firm_journal = stands.firm_journal;
   firm_records = stands.firm_records;
 }

@@ -1,6 +1,6 @@
 -- What a vault keeps in memory, and what of it holds on every board.
 use Rattle.std.specs.Prelude.{◌≡◌, ◌≤◌, ⊤, ℕ, ◌+◌, ◌&&◌, nat_le, nat_lt, Bool, true, false, List, [], ◌∷◌, length, map}
-use Rattle.block_pool.specs.Blocks.{Blocks, blocks_of, is_free}
+use Rattle.block_pool.specs.Blocks.{Blocks, blocks_of, is_free, is_ready}
 use Rattle.image_table.specs.Table.{table_rule}
 use Rattle.meta_journal.specs.Standing as journals
 use Rattle.record_view.specs.Records.{Meaning}
@@ -76,6 +76,7 @@ IsStaleStore s index last = last.stale ≡ has_link s.links
 pub record IsFresh (vault : InMemory) : Type 0 where
   pub is_open : vault.is_open ≡ true
   pub room : vault.journal.room ≡ 0
+  pub none_ready : (block : ℕ) → is_ready vault.pool block ≡ false
   pub stale : EachStore IsStaleStore vault.directory.stores vault.indexes vault.lasts
 
 -- What is shown of a vault.

@@ -1,5 +1,6 @@
 -- A vault whose stores were loaded.
-use Rattle.std.specs.Prelude.{◌≡◌, ℕ, true, List}
+use Rattle.std.specs.Prelude.{◌≡◌, ℕ, true, List, length}
+use Rattle.block_pool.specs.Blocks.{new_pool}
 use Rattle.meta_journal.specs.Standing as journals
 use Rattle.store_directory.specs.Directory.{IsDirectory}
 use Rattle.store_directory.specs.Kept.{Kept}
@@ -15,6 +16,7 @@ pub record IsLoadedVault (told : Type 0) (image : ℕ → List ℕ) (blocks : �
       vault.indexes vault.lasts
   pub journal_is : vault.journal ≡ journal
   pub wear_is : vault.pool.wear ≡ wear
+  pub ready_is : vault.pool.ready ≡ (new_pool (length wear)).ready
   pub blocks_is : vault.blocks ≡ blocks
   pub is_open : vault.is_open ≡ true
   pub sound : IsSound vault

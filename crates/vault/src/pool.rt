@@ -10,11 +10,13 @@ use std::alloc::{AllocError, Global};
 use store_directory::Directory;
 use store_load::claim;
 
-/// The pool of a device whose blocks have these erase counts. All data blocks are free.
+/// The pool of a device whose blocks have these erase counts. All data blocks are free, and none is
+/// ready.
 pub(crate) fn pool_of(alloc: Global, wear: &[u32]) -> Result<Pool, AllocError>
     requires least { 16 ≤ length wear.now }
     requires most { length wear.now ≤ 512 }
     ensures free { IfOk result (λ pool. pool.free ≡ (new_pool (length wear.now)).free) }
+    ensures ready { IfOk result (λ pool. pool.ready ≡ (new_pool (length wear.now)).ready) }
     ensures wear { IfOk result (λ pool. pool.wear ≡ wear.now) }
 {
     let mut pool = Pool::new(alloc, wear.len() as u32)?;
@@ -29,6 +31,7 @@ pub(crate) fn claimed(directory: &Directory, mut pool: Pool) -> Option<Pool>
     requires free { pool.free ≡ (new_pool (blocks_of pool)).free }
     ensures free { IfSome result (λ left. (block : ℕ) → is_free left block
         ≡ is_unlinked (blocks_of pool) directory.now.stores block) }
+    ensures ready { IfSome result (λ left. left.ready ≡ pool.ready) }
     ensures wear { IfSome result (λ left. left.wear ≡ pool.wear) }
     ensures share { IfSome result
         (λ left. may_share 240 (blocks_of pool) directory.now.stores ≡ true) }

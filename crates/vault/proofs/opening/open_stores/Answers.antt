@@ -77,6 +77,7 @@ returns-in-Ok-load_stores-clause-loaded g c = record {
   stores = c.in-Ok-load_stores.ensures.loaded;
   journal_is = refl;
   wear_is = c.in-Some.ensures.wear ∙ c.in-Ok.ensures.wear;
+  ready_is = c.in-Some.ensures.ready ∙ c.in-Ok.ensures.ready;
   blocks_is = c.requires.blocks;
   is_open = refl;
   sound = whole g c;
