@@ -10,3 +10,5 @@ pub mod Fetched
 pub mod Formats
 pub mod Stopped
 pub mod FreeBlocks
+pub mod Changed
+pub mod Counted

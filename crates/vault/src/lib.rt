@@ -2,6 +2,7 @@
 //! records that lie in the flash.
 #![tactic(auto)]
 
+mod changing;
 mod fault;
 mod fetching;
 mod formatting;
@@ -11,6 +12,7 @@ mod laws;
 mod loading;
 mod opening;
 mod pool;
+mod reporting;
 mod vault;
 
 pub use fault::{OpenFault, VaultFault};
@@ -25,3 +27,5 @@ mod fetch_tests;
 mod image_writer;
 #[cfg(test)]
 mod open_tests;
+#[cfg(test)]
+mod report_tests;
