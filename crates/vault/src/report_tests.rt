@@ -79,3 +79,66 @@ fn reports_are_counted_and_stay(rt: HostRuntime) -> Result<(), Fail> {
     }
     Ok(())
 }
+
+// How many of the three reports had answered when so many steps of the flash were done. A format
+// takes 17, the switch 17, and each report 4.
+fn answered(steps: u64) -> u16 {
+    match steps {
+        0..38 => 0,
+        38..42 => 1,
+        42..46 => 2,
+        _ => 3,
+    }
+}
+
+#[test]
+fn a_stop_keeps_each_report_that_answered(rt: HostRuntime) -> Result<(), Fail> {
+    let mut board = MemBoard::new(rt.alloc(), 16)?;
+    assert_eq!(rt; session(rt.alloc(), &mut board), Some(3));
+    assert_eq!(rt; board.moments(), 46);
+    for moment in 17..47 {
+        let least = answered(moment);
+        for torn in TORN {
+            let mut left = board.after_stop(rt.alloc(), moment, torn)?;
+            let Some(count) = count_of(rt.alloc(), &mut left) else {
+                panic!(rt; "not opened at {moment}");
+            };
+            assert!(rt;
+                count == least || count == least.saturating_add(1),
+                "{moment} {torn:?}"
+            );
+        }
+    }
+    Ok(())
+}
+
+// Lets one call fail, and answers whether fewer reports answered then, and the device counts those
+// or one more.
+fn is_told(alloc: Global, kind: CallKind, number: u64) -> Result<bool, Fail> {
+    let mut board = MemBoard::new(alloc, 16)?;
+    board.plan(kind, number)?;
+    let Some(done) = session(alloc, &mut board) else {
+        return Ok(false);
+    };
+    let Some(count) = count_of(alloc, &mut board) else {
+        return Ok(false);
+    };
+    Ok(done < 3 && (count == done || count == done.saturating_add(1)))
+}
+
+#[test]
+fn each_call_that_fails_is_told(rt: HostRuntime) -> Result<(), Fail> {
+    // the calls of each kind that a format takes, and all of them
+    let kinds = [
+        (CallKind::Program, 4u64, 14u64),
+        (CallKind::Erase, 5, 10),
+        (CallKind::Barrier, 8, 22),
+    ];
+    for (kind, before, all) in kinds {
+        for number in before..all {
+            let told = is_told(rt.alloc(), kind, number.saturating_add(1))?;
+            assert!(rt; told, "{kind:?} {number}");
+        }
+    }
+    Ok(())
+}
