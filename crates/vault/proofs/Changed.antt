@@ -1,10 +1,10 @@
 -- How a change of the directory becomes durable: the texts, the pages and the images.
-use Rattle.std.proofs.Common.{◌≡◌, inl, inr, ℕ, zero, suc, ◌+◌, ◌-◌, ◌*◌, ◌%◌, ◌/◌, ◌^◌, ◌<◌, ◌≤◌, ◌||◌, Bool, true, false, List, [], ◌∷◌, ◌++◌, All, length, take, drop, Option, Some, None, Result, Ok, Err, if◌then◌else◌, refl, sym, ◌∙◌, ap, subst, arith}
+use Rattle.std.proofs.Common.{◌≡◌, ℕ, ◌+◌, ◌-◌, ◌^◌, ◌<◌, ◌≤◌, ◌||◌, Bool, true, false, List, [], ◌∷◌, ◌++◌, All, length, take, Option, Some, Result, Ok, Err, if◌then◌else◌, refl, sym, ◌∙◌, ap, arith}
 use Rattle.std.specs.Prelude.{OnOk}
 use Rattle.std.proofs.lemmas.Bool.Decides.{nat_tests}
 use Rattle.std.proofs.lemmas.List.{append-nil, take-append-le}
 use Rattle.std.proofs.lemmas.List.Elements.{All-cons, All-nil}
-use Rattle.board.specs.Flash.{Flash, IsContent, IsImage, pages_from}
+use Rattle.board.specs.Flash.{Flash, IsContent}
 use Rattle.board.proofs.Pages.{above_pages}
 use Rattle.board.proofs.Touching.{Within}
 use Rattle.commit_gate.specs.Commits.{entry_pages}
@@ -13,7 +13,7 @@ use Rattle.meta_journal.proofs.Committed.{journal_holds}
 use Rattle.meta_journal.proofs.FirstDirectory.{front_written}
 use Rattle.meta_journal.specs.Directories.{directory_by}
 use Rattle.meta_journal.specs.Halves.{half_base, half_of, half_pages}
-use Rattle.meta_journal.specs.Journals.{Holds, IsJournal, next_of, repair_work, switch_pages}
+use Rattle.meta_journal.specs.Journals.{IsJournal, next_of, repair_work, switch_pages}
 use Rattle.meta_journal.specs.Standing.{repair_barriers}
 use Rattle.octet_fields.specs.Fields.{Writes}
 use Rattle.octet_fields.proofs.Splices.{length-Writes}

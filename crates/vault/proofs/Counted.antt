@@ -1,9 +1,8 @@
 -- A vault that stands for a table, after its count of reports became another one.
-use Rattle.std.proofs.Common.{◌≡◌, inl, inr, ℕ, zero, suc, ◌+◌, ◌*◌, ◌<◌, ◌≤◌, Bool, true, false, List, [], ◌∷◌, Option, None, Some, Result, Ok, Err, refl, sym, ◌∙◌, ap, ap₂, subst, arith}
+use Rattle.std.proofs.Common.{◌≡◌, inl, inr, ℕ, ◌+◌, ◌*◌, ◌<◌, ◌≤◌, true, false, List, [], ◌∷◌, Option, None, Some, Result, Ok, Err, refl, sym, ◌∙◌, ap, ap₂, subst, arith}
 use Rattle.std.specs.Prelude.{⊤, OnOk, length}
 use Rattle.std.specs.List.{list_all}
 use Rattle.std.proofs.lemmas.Bool.{and_parts, cases_lt, false≢true, lt-ltb}
-use Rattle.std.proofs.lemmas.Bool.Decides.{nat_tests}
 use Rattle.std.proofs.lemmas.Option.{none-some, same_Some}
 use Rattle.block_pool.specs.Blocks.{IsPool, is_free, is_ready}
 use Rattle.board.specs.Flash.{Flash, IsContent, IsImage, loosened}
@@ -11,7 +10,7 @@ use Rattle.board.specs.Meaning.{BoardMeaning}
 use Rattle.board.specs.Moments.{LeavesOnly}
 use Rattle.board.specs.Touches.{KeptElsewhere}
 use Rattle.board.proofs.Pages.{above_pages, elsewhere}
-use Rattle.chain_log.specs.Pages.{IsCleanFrom, block_octets}
+use Rattle.chain_log.specs.Pages.{IsCleanFrom}
 use Rattle.commit_gate.proofs.AreaPages.{octets_same}
 use Rattle.image_table.proofs.DataPages.{data_page}
 use Rattle.image_table.proofs.Frames.{data_links, data_tests, records_kept, same_records, shared_links, table_loads}

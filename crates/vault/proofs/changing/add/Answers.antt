@@ -1,8 +1,7 @@
-use Rattle.std.proofs.Common.{◌≡◌, inl, inr, ℕ, ◌+◌, ◌-◌, ◌≤◌, List, Some, length, take, sym, ◌∙◌, ap, subst, arith}
+use Rattle.std.proofs.Common.{◌≡◌, inl, inr, ℕ, ◌+◌, List, Some, length, take, subst, arith}
 use Rattle.board.specs.Device.{Device}
 use Rattle.board.specs.Flash.{IsContent}
 use Rattle.board.specs.Meaning.{TellsFlash}
-use Rattle.board.specs.Moments.{LeavesOnly}
 use Rattle.board.specs.Touches.{Touches}
 use Rattle.board.proofs.Stops.{weaker}
 use Rattle.board.proofs.Touching as touching

@@ -1,4 +1,4 @@
-use Rattle.std.proofs.Common.{◌≡◌, ℕ, List, arith}
+use Rattle.std.proofs.Common.{arith}
 use Rattle.board.proofs.Stops.{started}
 use Rattle.board.proofs.Touching as touching
 use Rattle.meta_journal.proofs.Switched.{standing_holds}

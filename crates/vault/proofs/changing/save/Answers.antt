@@ -1,6 +1,6 @@
-use Rattle.std.proofs.Common.{◌≡◌, ℕ, ◌+◌, arith}
+use Rattle.std.proofs.Common.{arith}
 use Rattle.board.proofs.Touching as touching
-use Rattle.vault.specs.Changing.{if_short, journal_pages}
+use Rattle.vault.specs.Changing.{journal_pages}
 use Rattle.vault.proofs.changing.save.Goals as goal
 
 pub returns-clause-touches : goal.returns-clause-touches

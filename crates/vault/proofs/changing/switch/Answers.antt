@@ -1,11 +1,10 @@
-use Rattle.std.proofs.Common.{◌≡◌, ℕ, ◌+◌, ◌≤◌, ◌<◌, ◌^◌, All, get_or, List, [], ◌++◌, Some, length, take, drop, sym, ◌∙◌, ap, subst, arith}
+use Rattle.std.proofs.Common.{◌≡◌, ℕ, ◌≤◌, ◌<◌, ◌^◌, All, get_or, List, [], ◌++◌, Some, length, take, drop, sym, ap, subst, arith}
 use Rattle.std.proofs.lemmas.List.{get_or_default, length-take-le}
 use Rattle.board.specs.Meaning.{TellsFlash}
 use Rattle.board.proofs.Touching as touching
-use Rattle.commit_gate.specs.Entries.{payload_pages}
 use Rattle.meta_journal.specs.Directories.{directory_by}
-use Rattle.meta_journal.specs.Journals.{Holds, repair_work, switch_pages}
-use Rattle.meta_journal.specs.Standing.{AllFirm, repair_barriers}
+use Rattle.meta_journal.specs.Journals.{switch_pages}
+use Rattle.meta_journal.specs.Standing.{AllFirm}
 use Rattle.store_directory.specs.Checkpoints.{checkpoint_octets}
 use Rattle.store_directory.proofs.CheckpointParts.{length-parts}
 use Rattle.vault.proofs.Changed.{checkpoint_spells, most_barriers, most_pages, most_repairs, ok_two, switch_within, text_written}

@@ -1,4 +1,4 @@
-use Rattle.std.proofs.Common.{◌≡◌, ℕ, ◌+◌, ◌%◌, List, None, Some, Result, Ok, Err, length, drop, sym, ◌∙◌, ap, subst, arith, true, refl}
+use Rattle.std.proofs.Common.{◌≡◌, ℕ, ◌+◌, ◌%◌, None, Some, Result, Err, length, drop, sym, ◌∙◌, ap, subst, true}
 use Rattle.std.specs.Prelude.{⊤, OnOk}
 use Rattle.board.specs.Device.{Device}
 use Rattle.board.specs.Flash.{IsContent, IsImage, loosened}
@@ -7,7 +7,6 @@ use Rattle.board.specs.Moments.{LeavesOnly}
 use Rattle.board.proofs.Works.{tells_too}
 use Rattle.image_table.specs.Standing.{HoldsEitherTable, HoldsTable}
 use Rattle.meta_journal.specs.Standing as journals
-use Rattle.pst_model.specs.Reports.{count_behind}
 use Rattle.pst_model.specs.Table.{Table}
 use Rattle.store_directory.specs.Changes.{Clock, apply}
 use Rattle.store_directory.specs.Directory.{Directory}
