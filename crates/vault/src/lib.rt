@@ -1,5 +1,5 @@
-//! The durable table of the packet stores, as it is opened: what of it lies in memory, and the
-//! records that lie in the flash.
+//! The durable table of the packet stores: what of it lies in memory, the records that lie in the
+//! flash, and how a change of it becomes durable.
 #![tactic(auto)]
 
 mod changing;

@@ -101,8 +101,6 @@ impl Vault {
         ensures same { self.new ≡ self.old }
         ensures board { board.new ≡ board.old }
     {
-        let _ = board.blocks();
-        let _ = self.is_open;
         Ok(())
     }
 }
