@@ -1,7 +1,8 @@
 -- What memory shows behind a change of a directory, and where a row was put for what was sent.
-use Rattle.std.proofs.Common.{◌≡◌, ℕ, zero, suc, true, false, Bool, List, [], ◌∷◌, slice_set, Some, refl, sym, ◌∙◌, ap, subst}
+use Rattle.std.proofs.Common.{◌≡◌, ℕ, zero, suc, ◌+◌, true, false, Bool, Option, List, [], ◌∷◌, slice_set, Some, refl, sym, ◌∙◌, ap, subst}
 use Rattle.std.specs.Prelude.{slice_get}
 use Rattle.std.proofs.lemmas.Option.{none-some, same_Some}
+use Rattle.pst_model.specs.Rules.{range_sent}
 use Rattle.pst_model.specs.Table.{Store, Table}
 use Rattle.retrieval.specs.Grants.{with_positions}
 use Rattle.retrieval.specs.Picks.{sent_row}
@@ -13,37 +14,28 @@ use Rattle.time_index.specs.TimeIndex.{TimeIndex}
 use Rattle.image_table.specs.Granting.{Renews}
 use Rattle.image_table.proofs.SentRows.{sent_listed}
 
+-- a store with other positions, beside a row that has them
+moved_shown : (behind : ℕ) (range : Option (ℕ × ℕ)) (store : Store) (s : Listed) (index : TimeIndex) → IsStoreShown store s index
+    → IsStoreShown (record store { behind = behind; range = range }) (record s { row = record s.row { behind = behind; range = range } }) index
+moved_shown behind range store s index shown = record {
+  shown = record {
+    identifier = shown.shown.identifier;
+    kind = shown.shown.kind;
+    size = shown.shown.size;
+    channel = shown.shown.channel;
+    storage = shown.shown.storage;
+    open_on = shown.shown.open_on;
+    told = shown.shown.told;
+    behind = refl;
+    range = refl;
+    packets = shown.shown.packets;
+  };
+  patterns = shown.patterns;
+}
+
 sent_shown : (range : Bool) (store : Store) (s : Listed) (index : TimeIndex) → IsStoreShown store s index → IsStoreShown (with_positions (sent_row range s.row) store) (sent_listed range s) index
-sent_shown true store s index shown = record {
-  shown = record {
-    identifier = shown.shown.identifier;
-    kind = shown.shown.kind;
-    size = shown.shown.size;
-    channel = shown.shown.channel;
-    storage = shown.shown.storage;
-    open_on = shown.shown.open_on;
-    told = shown.shown.told;
-    behind = refl;
-    range = refl;
-    packets = shown.shown.packets;
-  };
-  patterns = shown.patterns;
-}
-sent_shown false store s index shown = record {
-  shown = record {
-    identifier = shown.shown.identifier;
-    kind = shown.shown.kind;
-    size = shown.shown.size;
-    channel = shown.shown.channel;
-    storage = shown.shown.storage;
-    open_on = shown.shown.open_on;
-    told = shown.shown.told;
-    behind = refl;
-    range = refl;
-    packets = shown.shown.packets;
-  };
-  patterns = shown.patterns;
-}
+sent_shown true store s index shown = moved_shown s.row.behind (range_sent s.row.range) store s index shown
+sent_shown false store s index shown = moved_shown (s.row.behind + 1) s.row.range store s index shown
 
 pub set_shown : (range : Bool) (stores : List Store) (listed : List Listed) (indexes : List TimeIndex) (at : ℕ) (store : Store) (s : Listed)
     → AreShown stores listed indexes → slice_get stores at ≡ Some store → slice_get listed at ≡ Some s

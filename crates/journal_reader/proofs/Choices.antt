@@ -1,7 +1,8 @@
 -- The directory by the roots, and by two halves.
-use Rattle.std.proofs.Common.{◌≡◌, ℕ, zero, suc, ◌+◌, Bool, true, false, List, Option, Some, refl, sym, ◌∙◌, ap, arith}
+use Rattle.std.proofs.Common.{◌≡◌, ℕ, zero, suc, ◌+◌, Bool, true, false, List, Option, Some, refl, sym, ◌∙◌, ap, subst, arith}
 use Rattle.std.proofs.lemmas.Bool.{false≢true}
 use Rattle.root_vote.specs.declared.root.Root.{Root}
+use Rattle.root_vote.specs.declared.votes.Choice.{Choice}
 use Rattle.root_vote.specs.Roots.{AreVotes, choice_of, choice_of_votes}
 use Rattle.store_directory.specs.Directory.{Directory}
 use Rattle.store_directory.specs.Options.{◌>>=◌, given}
@@ -9,7 +10,7 @@ use Rattle.store_directory.specs.Same.{same_directory}
 use Rattle.store_directory.proofs.Sames.{directories_decided}
 use Rattle.meta_journal.specs.Directories.{chosen, directory_of}
 use Rattle.meta_journal.proofs.Holding.{votes_choice}
-use Rattle.journal_reader.specs.Halves.{both_halves, directory_if, halves_in}
+use Rattle.journal_reader.specs.Halves.{both_halves, directory_if, half_reads, halves_in}
 
 -- what is chosen by the votes of an image is what the image holds
 pub chosen_by_votes : (blocks n : ℕ) (votes : List (Option Root)) (image : ℕ → List ℕ) (answer : Option Directory) → n ≡ blocks → AreVotes votes image
@@ -18,6 +19,11 @@ unfolding directory_of
 chosen_by_votes blocks n votes image answer is are reads =
     sym (ap (λ m. chosen m (choice_of image) (halves_in m image)) is)
     ∙ sym (ap (λ c. chosen n c (halves_in n image)) (votes_choice votes image are)) ∙ reads
+
+-- the pages that are read for what the votes choose are those for what the image does
+pub reads_by_votes : (P : ℕ → Type 0) (votes : List (Option Root)) (image : ℕ → List ℕ) (choice : Choice) → AreVotes votes image
+    → choice ≡ choice_of_votes votes → P (3 + half_reads choice) → P (3 + half_reads (choice_of image))
+reads_by_votes P votes image choice are is = subst (λ (v : Choice). P (3 + half_reads v)) (is ∙ votes_choice votes image are)
 
 -- two directories that a test compares, in the one order and in the other
 in_order : (d : Directory) (b : Bool) → (given b >>= λ _. Some d) ≡ directory_if b d

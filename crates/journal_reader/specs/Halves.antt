@@ -3,6 +3,8 @@ use Rattle.std.specs.Prelude.{ℕ, List, Option, Some, None, option_map}
 use Rattle.std.specs.Prelude.{Bool, true, false, Result, Ok, Err}
 use Rattle.commit_gate.specs.Entries.{Damaged, End, Entry, EntryAt, text_at}
 use Rattle.meta_journal.specs.Directories.{directory_in, half_area}
+use Rattle.root_vote.specs.declared.votes.Choice.{Choice}
+use Rattle.root_vote.specs.declared.votes.Choice.TheVariants.{Agreed, Nobody, Split}
 use Rattle.store_directory.specs.Checkpoints.{read_checkpoint}
 use Rattle.store_directory.specs.Directory.{Directory}
 use Rattle.store_directory.specs.Kept.{Kept}
@@ -49,3 +51,9 @@ abbrev pub behind_root : {A B E : Type 0} → A → Result (Option B) E → Resu
 behind_root root (Ok (Some d)) = Ok (Some (root, d))
 behind_root root (Ok None) = Ok None
 behind_root root (Err stop) = Err stop
+
+-- the pages of the halves that count by a choice of the roots
+abbrev pub half_reads : Choice → ℕ
+half_reads (Agreed root) = 512
+half_reads (Split first last) = 1024
+half_reads Nobody = 0

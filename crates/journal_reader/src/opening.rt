@@ -2,17 +2,17 @@
 //
 // Order: the three root pages; then the half that they agree on, or both halves if they are split,
 // and these have to hold the same directory. Nothing is written.
-ghost use Rattle.std.specs.Prelude.{◌≡◌, ◌≤◌, None, Some, length, IfOk, IfSome, MatchOption};
+ghost use Rattle.std.specs.Prelude.{◌≡◌, ◌≤◌, ◌+◌, None, Some, length, IfOk, IfSome, MatchOption};
 ghost use Rattle.board.specs.Counts.{Rose};
 ghost use Rattle.board.specs.Meaning.{TellsFlash};
 ghost use Rattle.board.specs.Reads.{ReadsOnly};
 ghost use Rattle.meta_journal.specs.Directories.{chosen, directory_of, half_area, is_own};
 ghost use Rattle.meta_journal.specs.Halves.{half_of};
 ghost use Rattle.meta_journal.specs.Standing.{StandsFor};
-ghost use Rattle.root_vote.specs.Roots.{LeadsTo};
+ghost use Rattle.root_vote.specs.Roots.{LeadsTo, choice_of};
 ghost use Rattle.store_directory.specs.Same.{same_directory};
 ghost use Rattle.journal_reader.specs.Halves.{behind_root, both_halves, chosen_read, counts_of_half};
-ghost use Rattle.journal_reader.specs.Halves.{directory_if, directory_read, halves_in};
+ghost use Rattle.journal_reader.specs.Halves.{directory_if, directory_read, half_reads, halves_in};
 ghost use Rattle.journal_reader.specs.Stops.{OnFlash, UnlessFlash};
 
 use crate::half::read_half;
@@ -132,7 +132,7 @@ fn read_chosen<B: Board>(
     ensures wear { IfOk result (λ found. TellsFlash B.means board.old → IfSome found
         (λ pair. counts_of_half (length wear.old)
         (half_area (half_of pair.0) (B.means.flash board.old).content) ≡ Some wear.new)) }
-    ensures reads { ReadsOnly B.means 1024 board.old board.new }
+    ensures reads { ReadsOnly B.means (half_reads choice) board.old board.new }
     ensures no_fault { UnlessFlash result
         ((B.means.counts board.new).flash_faults ≡ (B.means.counts board.old).flash_faults) }
     ensures cause { OnFlash result
@@ -180,6 +180,8 @@ pub fn read_journal<B: Board>(
 
     ensures room { IfOk result (λ found. IfSome found (λ opened. opened.journal.room ≡ 0)) }
     ensures reads { ReadsOnly B.means 1027 board.old board.new }
+    ensures few_reads { TellsFlash B.means board.old → ReadsOnly B.means
+        (3 + half_reads (choice_of (B.means.flash board.old).content)) board.old board.new }
     ensures no_fault { UnlessFlash result
         ((B.means.counts board.new).flash_faults ≡ (B.means.counts board.old).flash_faults) }
     ensures cause { OnFlash result
