@@ -23,45 +23,8 @@ use store_directory::{Change, Directory, write_change};
 // The pages of the longest entry: its gate, and 20 of its text.
 const LONGEST: u32 = 21;
 
-// Writes the directory, with the erase counts of all blocks, as the checkpoint of the half that does
-// not count, and makes it count.
-fn switch<B: Board>(
-    board: &mut B,
-    directory: &Directory,
-    wear: &[u32],
-    buffer: &mut [u8],
-    journal: &mut Journal,
-) -> Result<(), Failed>
-    requires blocks { length wear.now ≡ (B.means.device board.old).blocks }
-    requires kept { IsDirectory directory.now.directory }
-    requires buffer { length buffer.old ≡ 65536 }
-    requires stands { TellsFlash B.means board.old
-        → StandsFor journal.old (B.means.flash board.old) }
-
-    ensures room { OnOk result (21 ≤ journal.new.room) }
-    ensures stands { OnOk result (TellsFlash B.means board.old
-        → StandsFor journal.new (B.means.flash board.new)) }
-    ensures holds { OnOk result (TellsFlash B.means board.old
-        → IsKept (B.means.device board.old).blocks directory.now.directory
-        (B.means.flash board.old)
-        → IsKept (B.means.device board.old).blocks directory.now.directory
-        (B.means.flash board.new)) }
-    ensures any_moment { TellsFlash B.means board.old
-        → IsKept (B.means.device board.old).blocks directory.now.directory
-        (B.means.flash board.old)
-        → LeavesOnly B.means board.old board.new
-        (Holds (B.means.device board.old).blocks directory.now.directory) }
-    ensures touches { Touches B.means journal_pages 85 7 13 board.old board.new }
-    ensures no_fault { OnOk result
-        ((B.means.counts board.new).flash_faults ≡ (B.means.counts board.old).flash_faults) }
-    ensures cause { OnErr result
-        (Rose (B.means.counts board.old).flash_faults (B.means.counts board.new).flash_faults) }
-{
-    let size = directory.write_checkpoint(wear, &mut buffer[..20_476]) as usize;
-    journal.switch(board, &buffer[..size])
-}
-
-// Makes room for the longest entry, if there is less.
+// Makes room for the longest entry, if there is less: writes the directory, with the erase counts of
+// all blocks, as the checkpoint of the half that does not count, and makes it count.
 fn make_room<B: Board>(
     board: &mut B,
     directory: &Directory,
@@ -95,11 +58,11 @@ fn make_room<B: Board>(
     ensures cause { OnErr result
         (Rose (B.means.counts board.old).flash_faults (B.means.counts board.new).flash_faults) }
 {
-    if journal.room() < LONGEST {
-        switch(board, directory, wear, buffer, journal)
-    } else {
-        Ok(())
+    if journal.room() >= LONGEST {
+        return Ok(());
     }
+    let size = directory.write_checkpoint(wear, &mut buffer[..20_476]) as usize;
+    journal.switch(board, &buffer[..size])
 }
 
 // Adds a change to the journal, as an entry of its own.
