@@ -3,6 +3,7 @@ pub mod Pages
 mod Pushes
 pub mod Reading
 pub mod Runs
+pub mod Shown
 mod Stepped
 mod Steps
 pub mod Stops

@@ -41,6 +41,16 @@ module _ {B : Type 0} (means : BoardMeaning B) where
     kept = run.kept;
   }
 
+  -- two facts of each image
+  pub leaves_both : (old new : B) (P Q R : (ℕ → List ℕ) → Type 0) → LeavesOnly means old new P → LeavesOnly means old new Q
+      → ((image : ℕ → List ℕ) → P image → Q image → R image) → LeavesOnly means old new R
+  leaves_both old new P Q R first second gives = record {
+    later = first.later;
+    each = λ t image from to left. gives image (first.each t image from to left) (second.each t image from to left);
+    past = first.past;
+    kept = first.kept;
+  }
+
   -- a run with P, and then one with Q, are in turn
   pub in_turn : (old mid new : B) (P Q : (ℕ → List ℕ) → Type 0)
       → LeavesOnly means old mid P → LeavesOnly means mid new Q → LeavesInTurn means old new P Q

@@ -42,3 +42,13 @@ pub record LeavesInTurn {B : Type 0} (means : BoardMeaning B) (old new : B) (P Q
 pub record LeavesFrom {B : Type 0} (means : BoardMeaning B) (start : ℕ) (new : B) (P : (ℕ → List ℕ) → Type 0) : Type 0 where
   pub reached : start ≤ means.moment new
   pub each : (t : ℕ) (image : ℕ → List ℕ) → start ≤ t → t ≤ means.moment new → means.images new t image → P image
+
+-- At each moment from old to new, each image that a stop leaves has P together with what had been sent by then.
+pub record Shows {B : Type 0} (means : BoardMeaning B) (old new : B) (P : List ℕ → (ℕ → List ℕ) → Type 0) : Type 0 where
+  pub later : means.moment old ≤ means.moment new
+  pub each : (t : ℕ) (image : ℕ → List ℕ) → means.moment old ≤ t → t ≤ means.moment new → means.images new t image
+      → P (means.sent new t) image
+  -- the images of a moment that was reached never change, and what was sent by it neither
+  pub past : (t : ℕ) (image : ℕ → List ℕ) → t ≤ means.moment old → means.images new t image → means.images old t image
+  pub kept : (t : ℕ) (image : ℕ → List ℕ) → t ≤ means.moment old → means.images old t image → means.images new t image
+  pub past_sent : (t : ℕ) → t ≤ means.moment old → means.sent new t ≡ means.sent old t

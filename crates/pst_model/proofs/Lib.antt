@@ -15,6 +15,7 @@ pub mod KindsFound
 pub mod KindsRead
 pub mod KindsWritten
 pub mod Leasts
+mod ListingRows
 pub mod Orders
 pub mod Puts
 mod RangeRows

@@ -13,6 +13,7 @@ pub mod Items
 pub mod Laws
 pub mod Layouts
 pub mod Least
+pub mod Listing
 pub mod Output
 pub mod Ranges
 pub mod ReadBack
