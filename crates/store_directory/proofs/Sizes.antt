@@ -1,11 +1,13 @@
 -- The greatest size of the store of each identifier, where an entry is written, added or taken out.
-use Rattle.std.proofs.Common.{◌≡◌, ℕ, zero, suc, Bool, true, false, cond, not, List, [], ◌∷◌, ◌++◌, nat_eq, refl, sym, ap, subst, ◌∙◌}
-use Rattle.std.specs.Prelude.{Some, if◌then◌else◌, slice_get}
+use Rattle.std.proofs.Common.{◌≡◌, ℕ, zero, suc, Bool, true, false, cond, not, List, [], ◌∷◌, ◌++◌, nat_eq, refl, sym, ap, subst, ◌∙◌, arith}
+use Rattle.std.specs.Prelude.{◌≤◌, Some, if◌then◌else◌, slice_get}
+use Rattle.std.specs.List.{All}
 use Rattle.std.specs.Map.{keys_of, remove_entry}
 use Rattle.std.proofs.lemmas.Bool.{and_parts, cond-false, cond-true, eq-eqb, eqb-false, eqb-true, false_from_ne_true, not-true}
+use Rattle.std.proofs.lemmas.List.Elements.{All-head, All-tail}
 use Rattle.indexmap.specs.Layout.{set_value_at}
-use Rattle.store_directory.specs.Directory.{are_distinct, is_new}
-use Rattle.store_directory.specs.Slots.{largest_in, sizes_of}
+use Rattle.store_directory.specs.Directory.{are_distinct, find_store, is_new}
+use Rattle.store_directory.specs.Slots.{AreWithin, IsEntry, largest_in, size_of, sizes_of, stores_of}
 use Rattle.store_directory.specs.declared.slot.Slot.{Slot}
 use Rattle.store_directory.proofs.Held.{Entries}
 use Rattle.store_directory.proofs.Places.{IsAbsent, IsFirst}
@@ -115,3 +117,18 @@ module _ (identifier : ℕ) where
           sym (passed e es other (subst (λ n. nat_eq other n ≡ false) is_key apart))
           ∙ sym (cond-false (nat_eq other identifier) 0 (largest (e ∷ es) other) apart)
           )
+
+-- no store is greater than it has been
+pub are-within : (es : Entries) → All IsEntry es → AreWithin (record { stores = stores_of es; sizes = sizes_of es })
+are-within [] all identifier = omega arith
+are-within (e ∷ es) all identifier =
+    by (nat_eq identifier e.0) refl (are-within es (All-tail IsEntry e es all) identifier)
+  where
+    by : (same : Bool) → nat_eq identifier e.0 ≡ same → size_of (find_store identifier (stores_of es)) ≤ largest es identifier
+        → size_of (find_store identifier (stores_of (e ∷ es))) ≤ largest (e ∷ es) identifier
+    by true is rest =
+        let entry = All-head IsEntry e es all in
+        rw (is, ap (nat_eq identifier) entry.own ∙ is) entry.slot.within
+    by false is rest =
+        let entry = All-head IsEntry e es all in
+        rw (is, ap (nat_eq identifier) entry.own ∙ is) rest

@@ -74,6 +74,11 @@ size_of (Some s) = s.size
 abbrev pub HasOwnSizes : Held → Type 0
 HasOwnSizes held = (identifier : ℕ) → largest_in held.sizes identifier ≡ size_of (find_store identifier held.stores)
 
+-- No store is greater than it has been.
+abbrev pub AreWithin : Held → Type 0
+AreWithin held = (identifier : ℕ)
+    → size_of (find_store identifier held.stores) ≤ largest_in held.sizes identifier
+
 -- A row was put among the stores.
 pub record PutsStore (row : Row) (old new : Held) : Type 0 where
   pub stores : put_row row old.stores ≡ Some new.stores

@@ -5,7 +5,7 @@ ghost use Rattle.store_directory.specs.Changes.{Change, Clock, Forward, apply};
 ghost use Rattle.store_directory.specs.Directory.{IsDirectory, empty_directory, place_of, reserved_by};
 ghost use Rattle.store_directory.specs.Kept.{IsChange, NeedsRoom, change_of, largest_after};
 ghost use Rattle.store_directory.specs.Checkpoints.{is_lawful};
-ghost use Rattle.store_directory.specs.Slots.{HasOwnSizes, largest_in};
+ghost use Rattle.store_directory.specs.Slots.{AreWithin, HasOwnSizes, largest_in};
 ghost use Rattle.store_directory.specs.Spelled.{checkpoint_of, meaning_of};
 
 use crate::change::Change;
@@ -97,10 +97,12 @@ impl Directory {
         &self.forward
     }
 
-    /// How many stores stand, at most 32.
+    /// How many stores stand, at most 32. None of them is greater than the greatest size that its
+    /// identifier has had, so a row that keeps the size of its store takes no memory.
     pub fn len(&self) -> u32
         ensures len { result ≡ length self.now.stores }
         ensures kept { IsDirectory self.now.directory }
+        ensures within { AreWithin (record { stores = self.now.stores; sizes = self.now.sizes }) }
     {
         let _ = self.forward.list();
         self.stores.len()

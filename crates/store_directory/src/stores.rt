@@ -7,7 +7,7 @@ ghost use Rattle.store_directory.specs.Checkpoints.{are_lawful};
 ghost use Rattle.store_directory.specs.Directory.{AreListed, Listed, place_of, reserved_by};
 ghost use Rattle.store_directory.specs.Rows.{FitsRow, is_lawful_row};
 ghost use Rattle.store_directory.specs.Spelled.{text_of};
-ghost use Rattle.store_directory.specs.Slots.{AddsStore, HasOwnSizes, IsSlot, PutsStore, largest_in, listed_of};
+ghost use Rattle.store_directory.specs.Slots.{AddsStore, AreWithin, HasOwnSizes, IsSlot, PutsStore, largest_in, listed_of};
 
 use crate::fault::{ApplyFault, Unfit};
 use crate::link_text::LinkList;
@@ -57,6 +57,7 @@ impl Stores {
     pub(crate) fn len(&self) -> u32
         ensures len { result ≡ length self.now.stores }
         ensures kept { AreListed self.now.stores }
+        ensures within { AreWithin self.now }
     {
         self.slots.len() as u32
     }

@@ -2,10 +2,12 @@
 ghost use Rattle.std.specs.Prelude.{◌≡◌};
 ghost use Rattle.store_policy.specs.Codes.{code_of};
 
-/// Why an instruction fails (ECSS-E-ST-70-41C, 6.15.3).
-#[derive(Clone, Copy, Debug, PartialEq, Eq)]
+/// Why an instruction fails (ECSS-E-ST-70-41C, 6.15.3). The default fills the free room of a list of
+/// refusals.
+#[derive(Clone, Copy, Debug, Default, PartialEq, Eq)]
 pub enum Refusal {
     /// No store has the identifier.
+    #[default]
     UnknownStore,
     /// A store has the identifier already.
     StoreExists,
