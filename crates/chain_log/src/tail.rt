@@ -79,6 +79,15 @@ impl Tail {
         Tail { block, used: 0 }
     }
 
+    /// A tail of a block of which so many pages are taken, at most 256. To append to it, the others
+    /// have to be clean.
+    pub fn at(block: u32, used: u32) -> Tail
+        requires { used ≤ 256 }
+        ensures { result ≡ record { block = block; used = used } }
+    {
+        Tail { block, used }
+    }
+
     /// The block's number.
     pub fn block(&self) -> u32
         ensures { result ≡ self.now.block }

@@ -26,13 +26,13 @@ use Rattle.store_load.specs.Each.{each}
 use Rattle.store_load.specs.Extents.{end_of, extent_to, joined, last_of, pages_in, read_extent}
 use Rattle.store_load.specs.Keeping.{Keeps}
 use Rattle.store_load.specs.Kept.{kept_of}
-use Rattle.store_load.specs.Moving.{GoesOn, IsNext, used_by}
+use Rattle.store_load.specs.Moving.{GoesOn, IsNext, SpellsLast, used_by}
 use Rattle.store_load.proofs.Counting.{kept_parts, parts_kept}
 use Rattle.store_load.proofs.Blocks.{begun, swapped_alone}
 use Rattle.store_load.proofs.Eachs.{EachIs, each_cons, each_same, given_then}
 use Rattle.store_load.proofs.Going as going
 use Rattle.store_load.proofs.Moved.{rise_later}
-use Rattle.image_table.specs.Going.{Begins, Changes, SpellsLast, table_put, with_row}
+use Rattle.image_table.specs.Going.{Begins, Changes, table_put, with_row}
 use Rattle.image_table.specs.Table.{store_of, store_with, stored_of, table_by, table_rule, table_with}
 use Rattle.image_table.proofs.Frames.{Loads, kept_store, loads_table, store_kept, table_loads}
 use Rattle.image_table.proofs.Stores.{FoundIn, changed_first, content_stored, found_in, put_in, store_keeps}

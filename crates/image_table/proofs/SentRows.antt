@@ -81,7 +81,7 @@ listed_lawful range position s next lawful =
 
 -- no link is trimmed
 
-untrimmed : (row : Row) (links : List Link) → begins_well row links ≡ true → trimmed row.first row.count links ≡ links
+pub untrimmed : (row : Row) (links : List Link) → begins_well row links ≡ true → trimmed row.first row.count links ≡ links
 untrimmed row [] begins = trimmed-none row.first row.count
 untrimmed row (link ∷ []) begins = by row.count (and_parts (nat_lt 0 row.count) (is_by link.first row.first) begins).0
   where

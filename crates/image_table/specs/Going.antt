@@ -1,6 +1,5 @@
 -- How a table goes on with the directory that it is of.
 use Rattle.std.specs.Prelude.{◌≡◌, ◌<◌, ◌^◌, ℕ, true, List, [], ◌∷◌, ◌++◌, drop, Some}
-use Rattle.std.specs.Option.{option_map}
 use Rattle.board.specs.Flash.{IsContent}
 use Rattle.pst_model.specs.Changes.{is_named}
 use Rattle.pst_model.specs.Rules.{at_first}
@@ -9,11 +8,8 @@ use Rattle.record_view.specs.declared.link.Link.{Link}
 use Rattle.store_directory.specs.Changes.{Change, Links, Put, apply}
 use Rattle.store_directory.specs.Checkpoints.{is_lawful}
 use Rattle.store_directory.specs.Directory.{Directory, IsDirectory}
-use Rattle.store_directory.specs.Rows.{between}
 use Rattle.store_directory.specs.declared.row.Row.{Row}
 use Rattle.store_load.specs.Claims.{may_share}
-use Rattle.store_load.specs.Extents.{end_of, extent_to, last_of, read_extent}
-use Rattle.store_load.specs.Moving.{last_extent}
 use Rattle.image_table.specs.Table.{table_by}
 
 -- a store of the table with another row of the directory, and these packets
@@ -64,15 +60,3 @@ pub record Begins (blocks : ℕ) (image : ℕ → List ℕ) (d : Directory) (tab
   pub count : row.count ≡ 1
   pub first : row.first < 2 ^ 32
   pub same : link.first ≡ row.first
-
--- A block spells the live records of a store's last one under the same numbers: if that is its only
--- one, from the store's first record on, and else from the first of the last link on.
-abbrev pub SpellsLast : (image : ℕ → List ℕ) → Row → List Link → (new : Link) → Type 0
-SpellsLast image row [] new = ⊥
-SpellsLast image row (link ∷ []) new =
-    (new.first ≡ row.first)
-    × (read_extent image (extent_to (end_of row) new)
-    ≡ option_map (drop (between link.first row.first)) (read_extent image (extent_to (end_of row) link)))
-SpellsLast image row (link ∷ next ∷ links) new =
-    (new.first ≡ (last_of next links).first)
-    × (read_extent image (extent_to (end_of row) new) ≡ read_extent image (last_extent row link (next ∷ links)))

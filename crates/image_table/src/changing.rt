@@ -10,8 +10,8 @@ ghost use Rattle.store_directory.specs.Changes.{Clock, Links, Put, Swap, apply};
 ghost use Rattle.store_directory.specs.Directory.{Directory, Listed, find_store};
 ghost use Rattle.store_directory.specs.declared.row.Row.{Row};
 ghost use Rattle.store_load.specs.Extents.{end_of, last_of};
-ghost use Rattle.store_load.specs.Moving.{GoesOn, IsNext, used_by};
-ghost use Rattle.image_table.specs.Going.{Begins, Changes, SpellsLast, table_put};
+ghost use Rattle.store_load.specs.Moving.{GoesOn, IsNext, SpellsLast, used_by};
+ghost use Rattle.image_table.specs.Going.{Begins, Changes, table_put};
 ghost use Rattle.image_table.specs.Table.{stored_of, table_by, table_rule};
 
 /// A later time leaves all packets as they are.

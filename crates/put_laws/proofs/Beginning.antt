@@ -29,7 +29,7 @@ use Rattle.put_laws.proofs.Applies.{Fits, found, links_fit_in, links_name_one, n
 use Rattle.put_laws.proofs.Contents.{few, keeps_is, room, taken_row, taking}
 use Rattle.put_laws.proofs.FewLinks.{few_links}
 use Rattle.put_laws.proofs.Replaced.{listed_in}
-use Rattle.put_laws.proofs.LastLinks.{last_more, used_none}
+use Rattle.store_load.proofs.LastLinks.{last_more, used_none}
 use Rattle.put_laws.proofs.Spots.{Spot, get_here, set_again, set_in}
 use Rattle.put_laws.proofs.Taking.{fits_taken, left_taken, loads_taken, meaning, next_taken, now_is, row_fits, row_lawful, stores_taken, unnamed_taken}
 use Rattle.put_laws.proofs.Turns.{Step, Turn, left_in, loaded, put_next, spot_listed, turn_of, walked}

@@ -1,11 +1,11 @@
 -- The last block of a store behind a put.
-use Rattle.std.proofs.Common.{◌≡◌, ℕ, zero, suc, ◌+◌, ◌-◌, ◌*◌, ◌%◌, ◌<◌, ◌≤◌, ◌&&◌, nat_lt, Bool, true, false, not, List, [], ◌∷◌, ◌++◌, length, Option, Some, None, refl, sym, ◌∙◌, ap, subst, arith}
+use Rattle.std.proofs.Common.{◌≡◌, ℕ, zero, suc, ◌+◌, ◌-◌, ◌%◌, ◌<◌, ◌≤◌, ◌&&◌, nat_lt, Bool, true, false, not, List, [], ◌∷◌, ◌++◌, length, Option, Some, None, refl, sym, ◌∙◌, ap, subst, arith}
 use Rattle.std.specs.Prelude.{All, if◌then◌else◌, slice_get}
 use Rattle.std.specs.List.{list_any}
 use Rattle.std.proofs.lemmas.Bool.Decides.{nat_tests}
 use Rattle.std.proofs.lemmas.List.Elements.{All-cons, All-head, All-nil, All-tail}
 use Rattle.std.proofs.lemmas.Option.{same_Some}
-use Rattle.board.specs.Flash.{IsContent, pages_from}
+use Rattle.board.specs.Flash.{IsContent}
 use Rattle.chain_log.specs.Pages.{block_octets}
 use Rattle.image_table.specs.Table.{in_records, table_rule}
 use Rattle.image_table.proofs.Frames.{data_tests, store_kept, table_loads}
@@ -18,21 +18,24 @@ use Rattle.store_directory.specs.Changes.{Change}
 use Rattle.store_directory.specs.Directory.{Directory, Listed, trim_front, trimmed}
 use Rattle.store_directory.specs.Rows.{between, is_by}
 use Rattle.store_directory.specs.declared.row.Row.{Row}
-use Rattle.store_load.specs.Extents.{end_of, extent_to, extents_from, last_of, last_read, pages_in, read_extent}
-use Rattle.store_load.specs.Frame.{in_extent, in_store, pages_read}
-use Rattle.store_load.specs.Keeping.{IsLinkOf, Keeps}
+use Rattle.store_load.specs.Extents.{end_of, extent_to, last_of, last_read, pages_in, read_extent}
+use Rattle.store_load.specs.Frame.{in_store, pages_read}
+use Rattle.store_load.specs.Keeping.{IsInDevice, IsLinkOf, Keeps}
 use Rattle.store_load.specs.Kept.{begins_well}
-use Rattle.store_load.specs.Loaded.{used_in}
+use Rattle.store_load.specs.Loaded.{index_of, used_in}
 use Rattle.store_load.specs.Moving.{used_by}
 use Rattle.store_load.proofs.Counting.{kept_parts}
 use Rattle.store_load.proofs.Eachs.{each_cons, each_more, in_either, in_other, one}
 use Rattle.store_load.proofs.More.{content_more, extents_more, last_spelled}
-use Rattle.store_load.proofs.Records.{extent_length, extent_stays, extent_within, few_records}
+use Rattle.store_load.proofs.Indexed.{kept_index}
+use Rattle.store_load.proofs.Records.{extent_length, extent_within, few_records}
+use Rattle.store_load.proofs.StayingIndexes.{index_stays, used_stays}
+use Rattle.time_index.specs.TimeIndex.{TimeIndex}
 use Rattle.put_laws.specs.Puts.{Accepts, Begins, SpellsBehind, SpellsFirst, Takes, Tells, last_link, listed_behind, need_of}
 use Rattle.put_laws.specs.Walks.{HasOffered, IsTurn, offered_to, table_at}
 use Rattle.put_laws.proofs.Applies.{found}
 use Rattle.put_laws.proofs.Contents.{few, keeps_is}
-use Rattle.put_laws.proofs.LastLinks.{empty, last_more, none_between}
+use Rattle.store_load.proofs.LastLinks.{empty, last_more, none_between}
 use Rattle.put_laws.proofs.Spots.{spot}
 use Rattle.put_laws.proofs.Turns.{Turn, turn_of}
 
@@ -176,37 +179,33 @@ any_in : {X : Type 0} (test : X → Bool) (front : List X) (x : X) (back : List 
 any_in test [] x back is = in_either (test x) (list_any test back) is
 any_in test (y ∷ front) x back is = in_other (test y) (list_any test (front ++ x ∷ back)) (any_in test front x back is)
 
-last_in : (image : ℕ → List ℕ) (p end : ℕ) (link : Link) (links : List Link) → in_extent image p (extent_to end (last_of link links)) ≡ true
-    → list_any (in_extent image p) (extents_from end link links) ≡ true
-last_in image p end link [] is = in_either (in_extent image p (extent_to end link)) false is
-last_in image p end link (next ∷ links) is =
-    in_other (in_extent image p (extent_to next.first link)) (list_any (in_extent image p) (extents_from end next links)) (last_in image p end next links is)
+module _ (blocks : ℕ) (image : ℕ → List ℕ) (d : Directory) (table : Table) (stored : Stored) (at place : ℕ) (changes : List Change) (next : Directory) (s : Listed)
+    (walk : HasOffered blocks image d table stored at changes next) (listed : slice_get next.stores place ≡ Some s) where
+  keeps_at : (records : List Meaning) × Keeps table_rule blocks image next.now s.row s.links records
+  keeps_at =
+      let loads = table_loads blocks image next (table_at stored at table) walk.loads in
+      let there = spot next.stores place s listed in
+      let stands = found blocks next walk.directory loads.share there.front s there.back there.parted in
+      let here = found_in image next.now s.identifier next.stores (offered_to stored at table.stores) s loads.stores stands in
+      let (records, kept, whole) = store_kept image next.now s here.store here.is in
+      (records, store_keeps blocks image next s.identifier next.now s records walk.pages walk.directory loads.share stands kept)
 
-pub used_beside : (blocks : ℕ) (image other : ℕ → List ℕ) (d : Directory) (table : Table) (stored : Stored) (at place : ℕ) (changes : List Change) (next : Directory) (s : Listed)
-    → HasOffered blocks image d table stored at changes next → IsContent blocks other → ((p : ℕ) → in_records image p next ≡ true → other p ≡ image p)
-    → slice_get next.stores place ≡ Some s → used_in other s.row s.links ≡ used_in image s.row s.links
-used_beside blocks image other d table stored at place changes next s walk pages same listed =
-    let loads = table_loads blocks image next (table_at stored at table) walk.loads in
-    let there = spot next.stores place s listed in
-    let stands = found blocks next walk.directory loads.share there.front s there.back there.parted in
-    let here = found_in image next.now s.identifier next.stores (offered_to stored at table.stores) s loads.stores stands in
-    let (records, kept, whole) = store_kept image next.now s here.store here.is in
-    let keeps = store_keeps blocks image next s.identifier next.now s records walk.pages walk.directory loads.share stands kept in
-    let own_pages : (p : ℕ) → in_store image p s.row s.links ≡ true → other p ≡ image p = λ p is.
-    same p (ap (list_any (λ (x : Listed). in_store image p x.row x.links)) there.parted ∙ any_in (λ (x : Listed). in_store image p x.row x.links) there.front s there.back is) in
-    by_links s.links refl records keeps own_pages
-  where
-    by_links : (links : List Link) → s.links ≡ links → (records : List Meaning) → Keeps table_rule blocks image next.now s.row s.links records
-        → ((p : ℕ) → in_store image p s.row s.links ≡ true → other p ≡ image p) → used_in other s.row links ≡ used_in image s.row links
-    by_links [] is records keeps own_pages = refl
-    by_links (link ∷ links) is records keeps own_pages =
-        let all = subst (λ (l : List Link). Keeps table_rule blocks image next.now s.row l records) is keeps in
-        let are = kept_parts table_rule image next.now s.row (link ∷ links) records all.kept in
-        let extent = extent_to (end_of s.row) (last_of link links) in
-        let read = last_spelled image (end_of s.row) link links are.reads are.read in
-        let own = own_last blocks link links all.each_link in
-        let stays = extent_stays blocks image other walk.pages pages extent (last_read are.reads) own.block read
-        (λ p h. own_pages p
-        (ap (in_store image p s.row) is
-        ∙ last_in image p (end_of s.row) link links (ap (λ (o : Option (List Meaning)). pages_from (256 * extent.block) (pages_read o) p) read ∙ h))) in
-        ap pages_read (stays ∙ sym read)
+  module _ (other : ℕ → List ℕ) (pages : IsContent blocks other) (same : (p : ℕ) → in_records image p next ≡ true → other p ≡ image p) where
+    own_pages : (p : ℕ) → in_store image p s.row s.links ≡ true → other p ≡ image p
+    own_pages p is =
+        let there = spot next.stores place s listed in
+        same p (ap (list_any (λ (x : Listed). in_store image p x.row x.links)) there.parted ∙ any_in (λ (x : Listed). in_store image p x.row x.links) there.front s there.back is)
+
+    own_links : All (IsInDevice blocks) s.links
+    own_links = let (records, keeps) = keeps_at in λ k link lt. (keeps.each_link k link lt).block
+
+    pub used_beside : used_in other s.row s.links ≡ used_in image s.row s.links
+    used_beside =
+        let (records, keeps) = keeps_at in
+        let (index, is) = kept_index table_rule image next.now s.row s.links records keeps.kept in
+        used_stays table_rule blocks image other next.now s.row s.links index walk.pages pages own_links is own_pages
+
+    pub places_beside : (index : TimeIndex) → index_of table_rule image next.now s.row s.links ≡ Some index
+        → index_of table_rule other next.now s.row s.links ≡ Some index
+    places_beside index is =
+        index_stays table_rule blocks image other next.now s.row s.links index walk.pages pages own_links is own_pages

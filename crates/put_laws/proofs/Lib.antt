@@ -10,12 +10,12 @@ pub mod Contents
 pub mod Telling
 pub mod Taking
 pub mod FewLinks
-pub mod LastLinks
 pub mod Beginning
 pub mod Ending
 pub mod Indexed
 pub mod NewPages
 pub mod LastBlocks
+pub mod PlacesOn
 pub mod Examples
 pub mod Counts
 pub mod Leaves

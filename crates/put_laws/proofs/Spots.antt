@@ -1,7 +1,8 @@
 -- A place in a list, and the list before and behind it.
-use Rattle.std.proofs.Common.{◌≡◌, ℕ, zero, suc, true, false, not, ◌==◌, List, [], ◌∷◌, ◌++◌, length, map, drop, take, slice_set, Some, refl, sym, ◌∙◌, ap}
+use Rattle.std.proofs.Common.{◌≡◌, ℕ, zero, suc, true, false, not, ◌==◌, List, [], ◌∷◌, ◌++◌, length, map, drop, take, slice_set, Some, refl, sym, ◌∙◌, ap, arith}
 use Rattle.std.specs.Prelude.{find, slice_get}
 use Rattle.std.proofs.lemmas.Bool.{and_parts, eq-eqb, not-true}
+use Rattle.std.proofs.lemmas.Bool.Decides.{nat_tests}
 use Rattle.std.proofs.lemmas.Option.{none-some, same_Some}
 use Rattle.pst_model.specs.Arrivals.{offered}
 use Rattle.pst_model.specs.Changes.{is_named}
@@ -86,6 +87,16 @@ pub set_again : {X : Type 0} (xs : List X) (at : ℕ) (a b : X) → slice_set (s
 set_again [] at a b = refl
 set_again (y ∷ xs) zero a b = refl
 set_again (y ∷ xs) (suc at) a b = ap (λ (l : List _). y ∷ l) (set_again xs at a b)
+
+pub get_other : {X : Type 0} (xs : List X) (at place : ℕ) (x : X) → (place == at) ≡ false → slice_get (slice_set xs at x) place ≡ slice_get xs place
+get_other [] at place x differs = refl
+get_other (y ∷ xs) zero zero x differs = absurd (grind (arith, nat_tests, differs))
+get_other (y ∷ xs) zero (suc place) x differs = refl
+get_other (y ∷ xs) (suc at) zero x differs = refl
+get_other (y ∷ xs) (suc at) (suc place) x differs = get_other xs at place x (further place at differs)
+  where
+    further : (a b : ℕ) → (suc a == suc b) ≡ false → (a == b) ≡ false
+    further a b h = grind (arith, nat_tests, h)
 
 -- the stores to which a packet was offered, before a store and behind it
 pub offered_here : (stored : Stored) (front : List Store) (store : Store) (back : List Store)

@@ -15,6 +15,15 @@ pub record IsEntryOf (stored : Stored) (entry : Entry) : Type 0 where
   pub stamp : entry.stamp ≡ stored.time
   pub length : entry.length ≡ length stored.octets
 
+-- the entry of a packet whose record begins at a page of a block
+abbrev pub entry_of : Stored → (block page : ℕ) → Entry
+entry_of stored block page = record {
+  stamp = stored.time;
+  block = block;
+  page = page;
+  length = length stored.octets;
+}
+
 -- the packets of each store have, in order, the times and the lengths of the entries of its index
 abbrev pub AreAllIndexed : List Store → List TimeIndex → Type 0
 AreAllIndexed [] [] = ⊤

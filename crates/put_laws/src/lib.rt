@@ -7,6 +7,7 @@ mod beside;
 mod counting;
 mod indexing;
 mod leaving;
+mod placing;
 mod tails;
 mod walking;
 
@@ -17,6 +18,7 @@ pub use indexing::{
     shown_tables_are_indexed,
 };
 pub use leaving::blocks_leave_with_their_links;
+pub use placing::{places_go_on, places_stay_beside, times_are_those_of_the_packet};
 pub use tails::{last_blocks_go_on, last_blocks_stay_beside};
 pub use walking::{
     idle_packets_change_the_clock, walks_begin, walks_begin_blocks, walks_end, walks_pass_stores,

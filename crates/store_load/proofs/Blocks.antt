@@ -18,8 +18,13 @@ use Rattle.store_load.specs.Kept.{are_filled, are_short, begins_well, dead_by, k
 use Rattle.store_load.specs.declared.rule.Rule.{Rule}
 use Rattle.store_load.proofs.Counting.{KeptAre, kept_parts, parts_kept}
 use Rattle.store_load.proofs.Eachs.{both, each_cons, each_more, one, two}
+use Rattle.store_load.proofs.LastLinks.{empty, none_between}
 use Rattle.store_load.proofs.More.{some_read}
 use Rattle.store_load.proofs.Records.{cons_records, records_none}
+
+-- a number is at itself
+at_it : (a f : ℕ) → a ≡ f → f < 4294967296 → is_by a f ≡ true
+at_it a f same lt = ap (λ (n : ℕ). nat_lt n 2147483648) (none_between a f same lt)
 
 -- a first record
 module _ (rule : Rule) (image : ℕ → List ℕ) (later : ℕ) (next : Row) (link : Link) (meaning : Meaning)
@@ -39,51 +44,43 @@ module _ (rule : Rule) (image : ℕ → List ℕ) (later : ℕ) (next : Row) (li
       ∙ cons_records block 0 next.first 0 meaning [] spelled
       (records_none block (number_after next.first) (0 + charge_of (length meaning.packet)))
 
-  pub begun : meaning.stamp ≤ later → length meaning.packet ≤ rule.largest → charge_of (length meaning.packet) ≤ next.size
-      → kept_of rule image later next (link ∷ []) ≡ Some (meaning ∷ [])
-  begun low largest fits =
-      parts_kept rule image later next (link ∷ []) (meaning ∷ [])
-      (record {
-        begins = both (nat_lt 0 next.count) (is_by link.first next.first) (ap (nat_lt 0) one_record) (at_it link.first next.first same first);
-        reads = (meaning ∷ []) ∷ [];
-        read = each_more (read_extent image) (extent_to (end_of next) link) [] (meaning ∷ []) [] read_first refl;
-        live = ap (λ (n : ℕ). drop n (meaning ∷ [])) (no_dead link.first next.first same first);
-        filled = refl;
-        short = both (nat_le (length meaning.packet) rule.largest) true (le-leb (length meaning.packet) rule.largest largest) refl;
-        rise = both (nat_le 0 meaning.stamp && nat_le meaning.stamp later) true (rises meaning.stamp low) refl;
-        fits = le-leb (pages_in (meaning ∷ [])) next.size (omega (arith, fits));
-      })
+  pub begun_are : meaning.stamp ≤ later → length meaning.packet ≤ rule.largest → charge_of (length meaning.packet) ≤ next.size
+      → (are : KeptAre rule image later next (link ∷ []) (meaning ∷ [])) × (are.reads ≡ (meaning ∷ []) ∷ [])
+  begun_are low largest fits = (
+    record {
+      begins = both (nat_lt 0 next.count) (is_by link.first next.first) (ap (nat_lt 0) one_record) (at_it link.first next.first same first);
+      reads = (meaning ∷ []) ∷ [];
+      read = each_more (read_extent image) (extent_to (end_of next) link) [] (meaning ∷ []) [] read_first refl;
+      live = ap (λ (n : ℕ). drop n (meaning ∷ [])) (none_between link.first next.first same first);
+      filled = refl;
+      short = both (nat_le (length meaning.packet) rule.largest) true (le-leb (length meaning.packet) rule.largest largest) refl;
+      rise = both (nat_le 0 meaning.stamp && nat_le meaning.stamp later) true (rises meaning.stamp low) refl;
+      fits = le-leb (pages_in (meaning ∷ [])) next.size (omega (arith, fits));
+    },
+    refl,
+  )
     where
-      no_dead : (a f : ℕ) → a ≡ f → f < 4294967296 → between a f ≡ 0
-      no_dead a f same lt = omega (arith, same, lt)
-
-      at_it : (a f : ℕ) → a ≡ f → f < 4294967296 → is_by a f ≡ true
-      at_it a f same lt = ap (λ (n : ℕ). nat_lt n 2147483648) (no_dead a f same lt)
-
       rises : (stamp : ℕ) → stamp ≤ later → (nat_le 0 stamp && nat_le stamp later) ≡ true
       rises stamp h = grind (arith, nat_tests)
+
+  pub begun : meaning.stamp ≤ later → length meaning.packet ≤ rule.largest → charge_of (length meaning.packet) ≤ next.size
+      → kept_of rule image later next (link ∷ []) ≡ Some (meaning ∷ [])
+  begun low largest fits = parts_kept rule image later next (link ∷ []) (meaning ∷ []) (begun_are low largest fits).0
 
 -- the extents where a link without records stands behind the others
 extents_closed : (image : ℕ → List ℕ) (end : ℕ) (link : Link) (rest : List Link) (closed : Link) (reads : List (List Meaning))
     → closed.first ≡ end → end < 4294967296
     → each (read_extent image) (extents_from end link rest) ≡ Some reads
     → each (read_extent image) (extents_from end link (rest ++ closed ∷ [])) ≡ Some (reads ++ [] ∷ [])
-unfolding read_extent
 extents_closed image end link [] closed reads same lt h =
     let (records, none, is, are, whole) = each_cons (read_extent image) (extent_to end link) [] reads h in
     let nothing : [] ≡ none = same_Some [] none are in
-    let zero_count : between closed.first end ≡ 0 = numbers closed.first end same lt in
-    let empty : read_extent image (extent_to end closed) ≡ Some [] =
-    ap (λ (n : ℕ). read_extent image (record { block = closed.block; first = closed.first; count = n })) zero_count
-    ∙ records_none (block_octets image closed.block) closed.first 0 in
     each_more (read_extent image) (extent_to closed.first link) (extent_to end closed ∷ []) records ([] ∷ [])
     (ap (λ (n : ℕ). read_extent image (extent_to n link)) same ∙ is)
-    (each_more (read_extent image) (extent_to end closed) [] [] [] empty refl)
+    (each_more (read_extent image) (extent_to end closed) [] [] []
+    (empty image end closed (none_between closed.first end same lt)) refl)
     ∙ ap (λ (l : List (List Meaning)). Some ((records ∷ l) ++ [] ∷ [])) nothing
     ∙ ap (λ (l : List (List Meaning)). Some (l ++ [] ∷ [])) whole
-  where
-    numbers : (a f : ℕ) → a ≡ f → f < 4294967296 → between a f ≡ 0
-    numbers a f same lt = omega (arith, same, lt)
 extents_closed image end link (next ∷ rest) closed reads same lt h =
     let (records, behind, is, are, whole) = each_cons (read_extent image) (extent_to next.first link) (extents_from end next rest) reads h in
     each_more (read_extent image) (extent_to next.first link) (extents_from end next (rest ++ closed ∷ [])) records (behind ++ [] ∷ []) is
@@ -119,24 +116,25 @@ module _ (rule : Rule) (blocks : ℕ) (image : ℕ → List ℕ) (now : ℕ) (ro
       test n h = grind (arith, nat_tests)
 
   -- a full last block is followed by one that has no record yet
-  pub followed : (closed : Link) → closed.first ≡ end_of row → rule.least ≤ pages_in (last_read old.reads)
-      → kept_of rule image now row (link ∷ rest ++ closed ∷ []) ≡ Some records
-  followed closed same filled =
-      let (x, xs, whole) = some_read image (end_of row) link rest old.reads old.read in
-      parts_kept rule image now row (link ∷ rest ++ closed ∷ []) records
-      (record {
-        begins = begins rest old.begins;
-        reads = old.reads ++ [] ∷ [];
-        read = extents_closed image (end_of row) link rest closed old.reads same (omega arith) old.read;
-        live = ap (drop (between link.first row.first)) (joined_closed old.reads) ∙ old.live;
-        filled =
-            subst (λ (l : List (List Meaning)). are_filled rule.least (l ++ [] ∷ []) ≡ true) whole
-            (filled_closed rule.least x xs (ap (are_filled rule.least) whole ∙ old.filled)
-            (subst (λ (l : List (List Meaning)). rule.least ≤ pages_in (last_read l)) (sym whole) filled));
-        short = ap (are_short rule.largest) (joined_closed old.reads) ∙ old.short;
-        rise = old.rise;
-        fits = old.fits;
-      })
+  pub followed_are : (closed : Link) → closed.first ≡ end_of row → rule.least ≤ pages_in (last_read old.reads)
+      → (are : KeptAre rule image now row (link ∷ rest ++ closed ∷ []) records) × (are.reads ≡ old.reads ++ [] ∷ [])
+  followed_are closed same filled =
+      let (x, xs, whole) = some_read image (end_of row) link rest old.reads old.read in (
+        record {
+          begins = begins rest old.begins;
+          reads = old.reads ++ [] ∷ [];
+          read = extents_closed image (end_of row) link rest closed old.reads same (omega arith) old.read;
+          live = ap (drop (between link.first row.first)) (joined_closed old.reads) ∙ old.live;
+          filled =
+              subst (λ (l : List (List Meaning)). are_filled rule.least (l ++ [] ∷ []) ≡ true) whole
+              (filled_closed rule.least x xs (ap (are_filled rule.least) whole ∙ old.filled)
+              (subst (λ (l : List (List Meaning)). rule.least ≤ pages_in (last_read l)) (sym whole) filled));
+          short = ap (are_short rule.largest) (joined_closed old.reads) ∙ old.short;
+          rise = old.rise;
+          fits = old.fits;
+        },
+        refl,
+      )
     where
       past : (a f n : ℕ) → a ≡ (f + n) % 4294967296 → f < 4294967296 → 0 < n → n ≤ 100000 → not (nat_lt (between a f) 2147483648) ≡ true
       past a f n same lt some le = ap not (test (between a f) (omega (arith, same, lt, some, le)))
@@ -150,32 +148,31 @@ module _ (rule : Rule) (blocks : ℕ) (image : ℕ → List ℕ) (now : ℕ) (ro
           (past closed.first row.first row.count same keeps.first (some_count [] h) keeps.count)
       begins (next ∷ links) h = h
 
+  pub followed : (closed : Link) → closed.first ≡ end_of row → rule.least ≤ pages_in (last_read old.reads)
+      → kept_of rule image now row (link ∷ rest ++ closed ∷ []) ≡ Some records
+  followed closed same filled = parts_kept rule image now row (link ∷ rest ++ closed ∷ []) records (followed_are closed same filled).0
+
   -- another only block, which has the live records alone
-  pub swapped_alone : (none : rest ≡ []) (new : Link) → new.first ≡ row.first
+  pub alone_are : (new : Link) → new.first ≡ row.first
       → read_extent image (extent_to (end_of row) new) ≡ Some records
-      → kept_of rule image now row (new ∷ []) ≡ Some records
-  swapped_alone none new same spelled =
-      let wholly : joined (records ∷ []) ≡ records = append-nil records in
-      parts_kept rule image now row (new ∷ []) records
-      (record {
-        begins = both (nat_lt 0 row.count) (is_by new.first row.first) (positive row.count (some_count rest old.begins)) (at_it new.first row.first same keeps.first);
-        reads = records ∷ [];
-        read = each_more (read_extent image) (extent_to (end_of row) new) [] records [] spelled refl;
-        live = ap (λ (n : ℕ). drop n (joined (records ∷ []))) (no_dead new.first row.first same keeps.first) ∙ wholly;
-        filled = refl;
-        short =
-            subst (λ (l : List Meaning). are_short rule.largest l ≡ true) (sym (wholly ∙ sym old.live))
-            (short_behind (dead_by row.first (link ∷ rest)) (joined old.reads) old.short);
-        rise = old.rise;
-        fits = old.fits;
-      })
+      → (are : KeptAre rule image now row (new ∷ []) records) × (are.reads ≡ records ∷ [])
+  alone_are new same spelled =
+      let wholly : joined (records ∷ []) ≡ records = append-nil records in (
+        record {
+          begins = both (nat_lt 0 row.count) (is_by new.first row.first) (positive row.count (some_count rest old.begins)) (at_it new.first row.first same keeps.first);
+          reads = records ∷ [];
+          read = each_more (read_extent image) (extent_to (end_of row) new) [] records [] spelled refl;
+          live = ap (λ (n : ℕ). drop n (joined (records ∷ []))) (none_between new.first row.first same keeps.first) ∙ wholly;
+          filled = refl;
+          short =
+              subst (λ (l : List Meaning). are_short rule.largest l ≡ true) (sym (wholly ∙ sym old.live))
+              (short_behind (dead_by row.first (link ∷ rest)) (joined old.reads) old.short);
+          rise = old.rise;
+          fits = old.fits;
+        },
+        refl,
+      )
     where
-      no_dead : (a f : ℕ) → a ≡ f → f < 4294967296 → between a f ≡ 0
-      no_dead a f same lt = omega (arith, same, lt)
-
-      at_it : (a f : ℕ) → a ≡ f → f < 4294967296 → is_by a f ≡ true
-      at_it a f same lt = ap (λ (n : ℕ). nat_lt n 2147483648) (no_dead a f same lt)
-
       positive : (n : ℕ) → 0 < n → nat_lt 0 n ≡ true
       positive n h = grind (arith, nat_tests)
 
@@ -183,6 +180,11 @@ module _ (rule : Rule) (blocks : ℕ) (image : ℕ → List ℕ) (now : ℕ) (ro
       short_behind zero all h = h
       short_behind (suc k) [] h = h
       short_behind (suc k) (x ∷ all) h = short_behind k all (two (nat_le (length x.packet) rule.largest) (are_short rule.largest all) h)
+
+  pub swapped_alone : (none : rest ≡ []) (new : Link) → new.first ≡ row.first
+      → read_extent image (extent_to (end_of row) new) ≡ Some records
+      → kept_of rule image now row (new ∷ []) ≡ Some records
+  swapped_alone none new same spelled = parts_kept rule image now row (new ∷ []) records (alone_are new same spelled).0
 
 -- links with another last one, whose extent has the same records
 pub record Swapped (image : ℕ → List ℕ) (end : ℕ) (link : Link) (swapped : List Link) (reads : List (List Meaning)) : Type 0 where
@@ -233,13 +235,14 @@ swapped_read image end new link (next ∷ rest) swapped reads is same spelled h 
     }
 
 -- another last block behind others
-pub swapped_behind : (rule : Rule) (blocks : ℕ) (image : ℕ → List ℕ) (now : ℕ) (row : Row) (link next : Link) (rest : List Link)
+pub behind_are : (rule : Rule) (blocks : ℕ) (image : ℕ → List ℕ) (now : ℕ) (row : Row) (link next : Link) (rest : List Link)
     (records : List Meaning) (keeps : Keeps rule blocks image now row (link ∷ next ∷ rest) records)
     (new : Link) (swapped : List Link) → swap_last new (link ∷ next ∷ rest) ≡ Some swapped
     → new.first ≡ (last_of next rest).first
     → read_extent image (extent_to (end_of row) new) ≡ Some (last_read (kept_parts rule image now row (link ∷ next ∷ rest) records keeps.kept).reads)
-    → kept_of rule image now row swapped ≡ Some records
-swapped_behind rule blocks image now row link next rest records keeps new swapped is same spelled =
+    → let old = kept_parts rule image now row (link ∷ next ∷ rest) records keeps.kept in
+    (are : KeptAre rule image now row swapped records) × (are.reads ≡ old.reads)
+behind_are rule blocks image now row link next rest records keeps new swapped is same spelled =
     let old = kept_parts rule image now row (link ∷ next ∷ rest) records keeps.kept in
     let (read_first, behind, read, are, whole) = each_cons (read_extent image) (extent_to next.first link) (extents_from (end_of row) next rest) old.reads old.read in
     let (deeper, made, last) = some_then (swap_last new (next ∷ rest)) (λ (l : List Link). Some (link ∷ l)) swapped is in
@@ -248,17 +251,28 @@ swapped_behind rule blocks image now row link next rest records keeps new swappe
     let ends : last_read behind ≡ last_read old.reads = ap last_read (sym e) ∙ ap (λ (l : List (List Meaning)). last_read (read_first ∷ l)) e ∙ ap last_read whole in
     let inner = swapped_read image (end_of row) new next rest deeper behind made same (spelled ∙ ap Some (sym ends)) are in
     let all = swapped_read image (end_of row) new link (next ∷ rest) swapped old.reads is same spelled old.read in
-    let shape : swapped ≡ link ∷ inner.head ∷ inner.tail = sym now_is ∙ ap (λ (l : List Link). link ∷ l) inner.are in
+    let shape : swapped ≡ link ∷ inner.head ∷ inner.tail = sym now_is ∙ ap (λ (l : List Link). link ∷ l) inner.are in (
+      record {
+        begins =
+            ap (begins_well row) shape
+            ∙ ap (λ (n : ℕ). nat_lt 0 row.count && is_by link.first row.first && not (is_by n row.first)) inner.same_first ∙ old.begins;
+        reads = old.reads;
+        read = all.read;
+        live = ap (λ (l : List Link). drop (dead_by row.first l) (joined old.reads)) shape ∙ old.live;
+        filled = old.filled;
+        short = old.short;
+        rise = old.rise;
+        fits = old.fits;
+      },
+      refl,
+    )
+
+pub swapped_behind : (rule : Rule) (blocks : ℕ) (image : ℕ → List ℕ) (now : ℕ) (row : Row) (link next : Link) (rest : List Link)
+    (records : List Meaning) (keeps : Keeps rule blocks image now row (link ∷ next ∷ rest) records)
+    (new : Link) (swapped : List Link) → swap_last new (link ∷ next ∷ rest) ≡ Some swapped
+    → new.first ≡ (last_of next rest).first
+    → read_extent image (extent_to (end_of row) new) ≡ Some (last_read (kept_parts rule image now row (link ∷ next ∷ rest) records keeps.kept).reads)
+    → kept_of rule image now row swapped ≡ Some records
+swapped_behind rule blocks image now row link next rest records keeps new swapped is same spelled =
     parts_kept rule image now row swapped records
-    (record {
-      begins =
-          ap (begins_well row) shape
-          ∙ ap (λ (n : ℕ). nat_lt 0 row.count && is_by link.first row.first && not (is_by n row.first)) inner.same_first ∙ old.begins;
-      reads = old.reads;
-      read = all.read;
-      live = ap (λ (l : List Link). drop (dead_by row.first l) (joined old.reads)) shape ∙ old.live;
-      filled = old.filled;
-      short = old.short;
-      rise = old.rise;
-      fits = old.fits;
-    })
+    (behind_are rule blocks image now row link next rest records keeps new swapped is same spelled).0

@@ -12,7 +12,7 @@ use Rattle.store_load.specs.Frame.{in_extent, in_store, pages_read}
 use Rattle.store_load.specs.Keeping.{IsInDevice}
 use Rattle.store_load.specs.Kept.{kept_of}
 use Rattle.store_load.specs.declared.rule.Rule.{Rule}
-use Rattle.store_load.proofs.Counting.{kept_parts, parts_kept}
+use Rattle.store_load.proofs.Counting.{KeptAre, kept_parts, parts_kept}
 use Rattle.store_load.proofs.Eachs.{EachIs, all_of_any, each_both, each_cons, each_same}
 use Rattle.store_load.proofs.Records.{extent_stays}
 
@@ -57,21 +57,27 @@ module _ (blocks : ℕ) (image other : ℕ → List ℕ) (content : IsContent bl
         (all_of_any (in_extent image) (λ p. other p ≡ image p) (extents_of row links) same)
 
     -- a store keeps its records wherever their pages are the same
+    pub stay_are : (rule : Rule) (now : ℕ) (records : List Meaning) (are : KeptAre rule image now row links records)
+        → (stays : KeptAre rule other now row links records) × (stays.reads ≡ are.reads)
+    stay_are rule now records are = (
+      record {
+        begins = are.begins;
+        reads = are.reads;
+        read = each_same (Stays blocks image other) (read_extent image) (read_extent other) read_stays (extents_of row links) are.reads stay are.read;
+        live = are.live;
+        filled = are.filled;
+        short = are.short;
+        rise = are.rise;
+        fits = are.fits;
+      },
+      refl,
+    )
+
     pub kept_stays : (rule : Rule) (now : ℕ) (records : List Meaning)
         → kept_of rule image now row links ≡ Some records → kept_of rule other now row links ≡ Some records
     kept_stays rule now records is =
-        let are = kept_parts rule image now row links records is in
         parts_kept rule other now row links records
-        (record {
-          begins = are.begins;
-          reads = are.reads;
-          read = each_same (Stays blocks image other) (read_extent image) (read_extent other) read_stays (extents_of row links) are.reads stay are.read;
-          live = are.live;
-          filled = are.filled;
-          short = are.short;
-          rise = are.rise;
-          fits = are.fits;
-        })
+        (stay_are rule now records (kept_parts rule image now row links records is)).0
 
     -- and then these pages are the same ones
     pub pages_stay : (rule : Rule) (now : ℕ) (records : List Meaning) (p : ℕ)

@@ -21,7 +21,7 @@ use Rattle.store_load.proofs.InRange.{placed_many}
 use Rattle.store_load.proofs.Records.{given_length}
 use Rattle.store_load.proofs.Takings.{pages_match, placed_lengths}
 
-placed_pages : (block : ℕ) (records : List Meaning) → pages_of (placed block 0 records) ≡ pages_in records
+pub placed_pages : (block : ℕ) (records : List Meaning) → pages_of (placed block 0 records) ≡ pages_in records
 placed_pages block records = pages_match 0 (placed block 0 records) records (placed_lengths block 0 records)
 
 -- the entries from some place on are those of these links

@@ -15,7 +15,7 @@ use Rattle.store_load.specs.Kept.{begins_well, kept_of}
 use Rattle.store_load.specs.Moving.{GoesOn, IsNext, last_extent, used_by}
 use Rattle.store_load.specs.declared.rule.Rule.{Rule}
 use Rattle.store_load.proofs.Blocks.{followed, swapped_behind}
-use Rattle.store_load.proofs.Counting.{counts_records, kept_parts, parts_kept}
+use Rattle.store_load.proofs.Counting.{KeptAre, counts_records, kept_parts, parts_kept}
 use Rattle.store_load.proofs.More.{last_spelled}
 use Rattle.store_load.proofs.Moved.{one_more, some_left}
 
@@ -23,20 +23,25 @@ none_left : (n : ℕ) (none : List Meaning) → length none ≡ 0 → drop n non
 none_left n none is = drop_all n none (omega (arith, is))
 
 -- a row without records keeps none
+pub none_are : (rule : Rule) (image : ℕ → List ℕ) (later : ℕ) (next : Row) → next.count ≡ 0
+    → (are : KeptAre rule image later next [] []) × (are.reads ≡ [])
+none_are rule image later next none = (
+  record {
+    begins = eq-eqb next.count 0 none;
+    reads = [];
+    read = refl;
+    live = none_left 0 [] refl;
+    filled = refl;
+    short = refl;
+    rise = refl;
+    fits = le-leb 0 next.size (omega arith);
+  },
+  refl,
+)
+
 none_kept : (rule : Rule) (image : ℕ → List ℕ) (later : ℕ) (next : Row) → next.count ≡ 0
     → kept_of rule image later next [] ≡ Some []
-none_kept rule image later next none =
-    parts_kept rule image later next [] []
-    (record {
-      begins = eq-eqb next.count 0 none;
-      reads = [];
-      read = refl;
-      live = none_left 0 [] refl;
-      filled = refl;
-      short = refl;
-      rise = refl;
-      fits = le-leb 0 next.size (omega arith);
-    })
+none_kept rule image later next none = parts_kept rule image later next [] [] (none_are rule image later next none).0
 
 pub front_gone : (rule : Rule) (blocks : ℕ) (image : ℕ → List ℕ) (now later : ℕ) (row : Row)
     (links : List Link) (records : List Meaning) (gone : ℕ) (next : Row)
@@ -64,7 +69,7 @@ front_gone rule blocks image now later row links records gone next keeps le goes
         (le-leb (pages_in (drop gone records)) next.size fits)
 
 -- what the last block uses
-used_is : (rule : Rule) (blocks : ℕ) (image : ℕ → List ℕ) (now : ℕ) (row : Row) (link : Link) (links : List Link) (records : List Meaning)
+pub used_is : (rule : Rule) (blocks : ℕ) (image : ℕ → List ℕ) (now : ℕ) (row : Row) (link : Link) (links : List Link) (records : List Meaning)
     (keeps : Keeps rule blocks image now row (link ∷ links) records)
     → used_by image row link links ≡ pages_in (last_read (kept_parts rule image now row (link ∷ links) records keeps.kept).reads)
 used_is rule blocks image now row link links records keeps =

@@ -1,9 +1,10 @@
 -- What holds of each store that was loaded.
-use Rattle.std.proofs.Common.{◌≡◌, ℕ, zero, suc, ◌+◌, ◌-◌, ◌*◌, ◌%◌, ◌<◌, ◌≤◌, ◌&&◌, nat_le, nat_lt, not, Bool, true, false, List, [], ◌∷◌, ◌++◌, All, get_or, length, drop, map, Some, refl, sym, ◌∙◌, ap, subst, arith, length-append, length-drop, eqb-true}
+use Rattle.std.proofs.Common.{◌≡◌, ℕ, zero, suc, ◌+◌, ◌-◌, ◌*◌, ◌%◌, ◌<◌, ◌≤◌, ◌&&◌, nat_le, nat_lt, not, Bool, true, false, List, [], ◌∷◌, ◌++◌, All, get_or, length, drop, map, Some, refl, sym, ◌∙◌, ap, subst, arith, append-nil, length-append, length-drop, eqb-true}
 use Rattle.std.specs.Prelude.{⊤}
 use Rattle.std.proofs.lemmas.Bool.{and_parts, leb-true}
 use Rattle.std.proofs.lemmas.List.{drop-drop, drop-map, map-append}
 use Rattle.std.proofs.Math.Seq.{drop-append_seam}
+use Rattle.std.proofs.lemmas.List.Sums.{sum_by-take-drop}
 use Rattle.std.proofs.lemmas.List.Elements.{All-append, All-cons, All-drop, All-head, All-nil, All-tail}
 use Rattle.std.proofs.lemmas.Option.{same_Some}
 use Rattle.space_packet.specs.Charge.{charge_of}
@@ -24,7 +25,7 @@ use Rattle.store_load.specs.Loading.{entry_at}
 use Rattle.store_load.specs.declared.rule.Rule.{Rule}
 use Rattle.store_load.proofs.Counting.{all_counted, all_few, first_by}
 use Rattle.store_load.proofs.Eachs.{both, given_then, one, two}
-use Rattle.store_load.proofs.Full.{are_full, few_dead}
+use Rattle.store_load.proofs.Full.{are_full, few_dead, placed_pages}
 use Rattle.store_load.proofs.InRange.{all_many, from_start, in_blocks, in_order, in_rest, placed_many}
 use Rattle.store_load.proofs.Indexed.{all_lengths}
 use Rattle.store_load.proofs.Records.{few_records, given_length, given_within, records_cons, records_none}
@@ -238,7 +239,17 @@ module _ (rule : Rule) (blocks now : ℕ) (row : Row) (links : List Link) (index
       by_links [] [] same are = held.used_is ∙ ap (λ (l : List (List Meaning)). pages_in (last_read l)) are
       by_links [] (records ∷ reads) same are =
           absurd (subst (λ (l : List Link). AreGiven (extents_of row l) (records ∷ reads)) same (subst (AreGiven (extents_of row links)) are held.given))
-      by_links (link ∷ []) reads same are = tt
+      by_links (link ∷ []) [] same are =
+          absurd (subst (λ (l : List Link). AreGiven (extents_of row l) []) same (subst (AreGiven (extents_of row links)) are held.given))
+      by_links (link ∷ []) (records ∷ next ∷ reads) same are =
+          absurd (subst (λ (l : List Link). AreGiven (extents_of row l) (records ∷ next ∷ reads)) same (subst (AreGiven (extents_of row links)) are held.given)).1
+      by_links (link ∷ []) (records ∷ []) same are =
+          let entries : index.entries ≡ drop (dead_by row.first links) (placed link.block 0 records ++ []) =
+          entries_are ∙ (λ i. drop (dead_by row.first links) (placed_all (extents_of row (same i)) (are i))) in
+          let cost = ap pages_of (append-nil (placed link.block 0 records)) ∙ placed_pages link.block records in
+          let parts = sum_by-take-drop (λ (e : Entry). charge_of e.length) (placed link.block 0 records ++ []) (dead_by row.first links) in
+          let uses : used ≡ pages_in records = held.used_is ∙ ap (λ (l : List (List Meaning)). pages_in (last_read l)) are in
+          omega (arith, ap pages_of entries, cost, parts, uses)
       by_links (link ∷ next ∷ rest) [] same are =
           absurd (subst (λ (l : List Link). AreGiven (extents_of row l) []) same (subst (AreGiven (extents_of row links)) are held.given))
       by_links (link ∷ next ∷ rest) (records ∷ []) same are =
@@ -287,6 +298,7 @@ module _ (rule : Rule) (blocks now : ℕ) (row : Row) (links : List Link) (index
 
   pub in_range : IsInRange rule now row links index used
   in_range = record {
+    begins = held.begins;
     first = ap (λ (i : TimeIndex). i.first) (sym made.1);
     count = count;
     size = ap (λ (i : TimeIndex). i.size) (sym made.1);

@@ -6,7 +6,6 @@ use Rattle.std.proofs.lemmas.List.{drop-map, map-append}
 use Rattle.std.proofs.lemmas.Option.{none-some, same_Some}
 use Rattle.record_view.specs.Records.{Meaning}
 use Rattle.record_view.specs.declared.link.Link.{Link}
-use Rattle.space_packet.specs.Charge.{charge_of}
 use Rattle.store_directory.specs.Options.{◌>>=◌}
 use Rattle.store_directory.specs.declared.row.Row.{Row}
 use Rattle.store_directory.proofs.Steps.{some_then}
@@ -21,6 +20,7 @@ use Rattle.store_load.specs.Loading.{Progress, load_extents}
 use Rattle.store_load.specs.declared.rule.Rule.{Rule}
 use Rattle.store_load.proofs.Counting.{kept_parts}
 use Rattle.store_load.proofs.Eachs.{both, each_cons, each_length, given_then}
+use Rattle.store_load.proofs.PlacedLasts.{placed_seen}
 use Rattle.store_load.proofs.Room.{room_all}
 use Rattle.store_load.proofs.Takings.{loads_taken, pages_match, placed_lengths, takes_all}
 
@@ -33,10 +33,6 @@ all_lengths (extent ∷ extents) (records ∷ reads) many =
     map-append (λ (e : Entry). e.length) (placed extent.block 0 records) (placed_all extents reads)
     ∙ (λ i. placed_lengths extent.block 0 records i ++ all_lengths extents reads (omega (arith, many)) i)
     ∙ sym (map-append (λ (m : Meaning). length m.packet) records (joined reads))
-
-placed_seen : (block page : ℕ) (records : List Meaning) → map seen (placed block page records) ≡ map shown records
-placed_seen block page [] = refl
-placed_seen block page (m ∷ records) = ap (λ (l : List (ℕ × ℕ)). shown m ∷ l) (placed_seen block (page + charge_of (length m.packet)) records)
 
 all_seen : (image : ℕ → List ℕ) (extents : List Extent) (reads : List (List Meaning)) → each (read_extent image) extents ≡ Some reads
     → map seen (placed_all extents reads) ≡ map shown (joined reads)
@@ -81,7 +77,7 @@ module _ (rule : Rule) (image : ℕ → List ℕ) (now : ℕ) (row : Row) (links
             ∙ drop-map shown (dead_by row.first links) (joined reads),
       )
 
-  kept_index : (records : List Meaning) → kept_of rule image now row links ≡ Some records
+  pub kept_index : (records : List Meaning) → kept_of rule image now row links ≡ Some records
       → (index : TimeIndex) × (index_of rule image now row links ≡ Some index)
   unfolding kept_of
   kept_index records is =

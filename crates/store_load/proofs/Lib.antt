@@ -9,6 +9,7 @@ pub mod Counting
 pub mod Trims
 pub mod Moved
 pub mod Frames
+pub mod LastLinks
 pub mod Blocks
 pub mod Going
 pub mod KeptRows
@@ -18,7 +19,17 @@ pub mod LinkLoading
 pub mod LinkWalks
 pub mod Takings
 pub mod Room
+pub mod PlacedLasts
 pub mod Indexed
 pub mod InRange
+pub mod Places
+pub mod PlacedFronts
+pub mod IndexMade
+pub mod MovedIndexes
+pub mod BegunIndexes
+pub mod StayingIndexes
+pub mod SwappedIndexes
+pub mod RenewedParts
 pub mod Full
 pub mod Held
+pub mod Spelled

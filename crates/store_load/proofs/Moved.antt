@@ -68,7 +68,7 @@ rise_dropped now from zero records h = rise_lower now from records h
 rise_dropped now from (suc k) [] h = refl
 rise_dropped now from (suc k) (r ∷ records) h = rise_dropped now r.stamp k records (two (nat_le from r.stamp && nat_le r.stamp now) (rise_to now r.stamp records) h)
 
-trim_suc : (first count n : ℕ) (link : Link) (links : List Link) → count ≡ suc n → trimmed first count (link ∷ links) ≡ trim_front first link links
+pub trim_suc : (first count n : ℕ) (link : Link) (links : List Link) → count ≡ suc n → trimmed first count (link ∷ links) ≡ trim_front first link links
 trim_suc first count n link links is = ap (λ (k : ℕ). trimmed first k (link ∷ links)) is
 
 last_more : (x : List Meaning) (xs : List (List Meaning)) (r : Meaning) → last_read (with_record (x ∷ xs) r) ≡ last_read (x ∷ xs) ++ r ∷ []
@@ -101,7 +101,7 @@ short_more largest records r short le =
 module _ (rule : Rule) (blocks : ℕ) (image : ℕ → List ℕ) (now later : ℕ) (row : Row) (links : List Link)
     (records : List Meaning) (keeps : Keeps rule blocks image now row links records) (le : now ≤ later)
     (gone : ℕ) (few : gone ≤ row.count) (next : Row) (first_is : next.first ≡ (row.first + gone) % 4294967296) where
-  abbrev old : KeptAre rule image now row links records
+  abbrev pub old : KeptAre rule image now row links records
   old = kept_parts rule image now row links records keeps.kept
 
   still_rise : rise_to now 0 (drop gone records) ≡ true
@@ -109,16 +109,16 @@ module _ (rule : Rule) (blocks : ℕ) (image : ℕ → List ℕ) (now later : �
 
   -- where it has a block
   module _ (link : Link) (rest : List Link) (same : links ≡ link ∷ rest) where
-    read_links : each (read_extent image) (extents_from (end_of row) link rest) ≡ Some old.reads
+    pub read_links : each (read_extent image) (extents_from (end_of row) link rest) ≡ Some old.reads
     read_links = sym (ap (λ (l : List Link). each (read_extent image) (extents_to (end_of row) l)) same) ∙ old.read
 
-    own : All (IsLinkOf blocks) (link ∷ rest)
+    pub own : All (IsLinkOf blocks) (link ∷ rest)
     own = subst (All (IsLinkOf blocks)) same keeps.each_link
 
     dead_is : dead_by row.first links ≡ between link.first row.first
     dead_is = ap (dead_by row.first) same
 
-    far_is : between link.first next.first ≡ dead_by row.first links + gone
+    pub far_is : between link.first next.first ≡ dead_by row.first links + gone
     far_is =
         let near = by_low link.first row.first (first_by row link rest (sym (ap (begins_well row) same) ∙ old.begins)) in
         let here = All-head (IsLinkOf blocks) link rest own in
@@ -128,10 +128,10 @@ module _ (rule : Rule) (blocks : ℕ) (image : ℕ → List ℕ) (now later : �
     near_next : between link.first next.first < 2147483648
     near_next = small_enough rule blocks image now row links records keeps gone (between link.first next.first) few far_is
 
-    trim : IsTrimmed blocks image (end_of row) next.first (trim_front next.first link rest) (between link.first next.first) old.reads (last_of link rest)
+    pub trim : IsTrimmed blocks image (end_of row) next.first (trim_front next.first link rest) (between link.first next.first) old.reads (last_of link rest)
     trim = trimmed_read blocks image keeps.pages (end_of row) next.first link rest old.reads own (omega (arith, first_is)) read_links near_next
 
-    kept_links : (n : ℕ) → next.count ≡ suc n → trimmed next.first next.count links ≡ trim_front next.first link rest
+    pub kept_links : (n : ℕ) → next.count ≡ suc n → trimmed next.first next.count links ≡ trim_front next.first link rest
     kept_links n is = ap (trimmed next.first next.count) same ∙ trim_suc next.first next.count n link rest is
 
     left_records : drop (dead_by next.first (trim_front next.first link rest)) (joined trim.left) ≡ drop gone records
@@ -142,26 +142,34 @@ module _ (rule : Rule) (blocks : ℕ) (image : ℕ → List ℕ) (now later : �
     begins : (n : ℕ) → next.count ≡ suc n → begins_well next (trim_front next.first link rest) ≡ true
     begins n is = trimmed_begins next link rest (omega (arith, is)) (low_by link.first next.first near_next)
 
-    -- some records are left
-    pub some_left : (n : ℕ) → next.count ≡ suc n → next.count ≡ row.count - gone → nat_le (pages_in (drop gone records)) next.size ≡ true
-        → kept_of rule image later next (trimmed next.first next.count links) ≡ Some (drop gone records)
-    some_left n some count_is fits =
-        let ends : end_of next ≡ end_of row = ended row.first row.count gone next.first next.count few first_is count_is in
-        ap (kept_of rule image later next) (kept_links n some)
-        ∙ parts_kept rule image later next (trim_front next.first link rest) (drop gone records)
-        (record {
-          begins = begins n some;
-          reads = trim.left;
-          read = ap (λ (end : ℕ). each (read_extent image) (extents_to end (trim_front next.first link rest))) ends ∙ trim.read;
-          live = left_records;
-          filled = trim.filled rule.least old.filled;
-          short = trim.all_short rule.largest old.short;
-          rise = rise_later now later 0 (drop gone records) le still_rise;
-          fits = fits;
-        })
+    pub ended_same : next.count ≡ row.count - gone → end_of next ≡ end_of row
+    ended_same count_is = ended row.first row.count gone next.first next.count few first_is count_is
       where
         ended : (f n k g m : ℕ) → k ≤ n → g ≡ (f + k) % 4294967296 → m ≡ n - k → (g + m) % 4294967296 ≡ (f + n) % 4294967296
         ended f n k g m le is count = omega (arith, le, is, count)
+
+    -- some records are left
+    pub left_are : (n : ℕ) → next.count ≡ suc n → next.count ≡ row.count - gone → nat_le (pages_in (drop gone records)) next.size ≡ true
+        → (are : KeptAre rule image later next (trim_front next.first link rest) (drop gone records)) × (are.reads ≡ trim.left)
+    left_are n some count_is fits = (
+      record {
+        begins = begins n some;
+        reads = trim.left;
+        read = ap (λ (end : ℕ). each (read_extent image) (extents_to end (trim_front next.first link rest))) (ended_same count_is) ∙ trim.read;
+        live = left_records;
+        filled = trim.filled rule.least old.filled;
+        short = trim.all_short rule.largest old.short;
+        rise = rise_later now later 0 (drop gone records) le still_rise;
+        fits = fits;
+      },
+      refl,
+    )
+
+    pub some_left : (n : ℕ) → next.count ≡ suc n → next.count ≡ row.count - gone → nat_le (pages_in (drop gone records)) next.size ≡ true
+        → kept_of rule image later next (trimmed next.first next.count links) ≡ Some (drop gone records)
+    some_left n some count_is fits =
+        ap (kept_of rule image later next) (kept_links n some)
+        ∙ parts_kept rule image later next (trim_front next.first link rest) (drop gone records) (left_are n some count_is fits).0
 
     short_last : between (last_of link rest).first (end_of row) < 4294967295
     short_last =
@@ -179,43 +187,54 @@ module _ (rule : Rule) (blocks : ℕ) (image : ℕ → List ℕ) (now later : �
             tail_of link rest own = λ k d lt. own (suc k) d (omega (arith, lt))
 
     -- one record more is spelled behind the last one
-    pub one_more : (meaning : Meaning)
-        → record_at (block_octets image (last_of link rest).block) (end_of row) (pages_in (last_read old.reads)) ≡ Some meaning
-        → now ≤ meaning.stamp → meaning.stamp ≤ later → length meaning.packet ≤ rule.largest
-        → next.count ≡ row.count - gone + 1 → pages_in (drop gone records) + charge_of (length meaning.packet) ≤ next.size
-        → kept_of rule image later next (trimmed next.first next.count links) ≡ Some (drop gone records ++ meaning ∷ [])
-    one_more meaning spelled low high largest count_is fits =
-        let (x, xs, whole) = some_read image (end_of row) trim.link trim.links trim.left left_read in
-        let more : joined (with_record trim.left meaning) ≡ joined trim.left ++ meaning ∷ [] =
-        ap (λ (l : List (List Meaning)). joined (with_record l meaning)) (sym whole) ∙ joined_more x xs meaning ∙ ap (λ (l : List (List Meaning)). joined l ++ meaning ∷ []) whole in
-        ap (kept_of rule image later next) (kept_links (row.count - gone) (omega (arith, count_is)))
-        ∙ parts_kept rule image later next (trim_front next.first link rest) (drop gone records ++ meaning ∷ [])
-        (record {
-          begins = begins (row.count - gone) (omega (arith, count_is));
-          reads = with_record trim.left meaning;
-          read = extents_next;
-          live =
-              ap (drop (dead_by next.first (trim_front next.first link rest))) more
-              ∙ drop-append-le (dead_by next.first (trim_front next.first link rest)) (joined trim.left) (meaning ∷ [])
-              (omega (arith, trim.within, far_is, counted rule blocks image now row links records keeps, few))
-              ∙ ap (λ (l : List Meaning). l ++ meaning ∷ []) left_records;
-          filled = filled_more rule.least trim.left meaning ∙ trim.filled rule.least old.filled;
-          short = ap (are_short rule.largest) more ∙ short_more rule.largest (joined trim.left) meaning (trim.all_short rule.largest old.short) largest;
-          rise = rise_more now later 0 (drop gone records) meaning (omega arith) low high still_rise;
-          fits = le-leb (pages_in (drop gone records ++ meaning ∷ [])) next.size (omega (arith, content_more (drop gone records) meaning, fits));
-        })
-      where
-        left_read : each (read_extent image) (extents_from (end_of row) trim.link trim.links) ≡ Some trim.left
-        left_read = sym (ap (λ (l : List Link). each (read_extent image) (extents_to (end_of row) l)) trim.some) ∙ trim.read
+    module _ (meaning : Meaning)
+        (spelled : record_at (block_octets image (last_of link rest).block) (end_of row) (pages_in (last_read old.reads)) ≡ Some meaning)
+        (low : now ≤ meaning.stamp) (high : meaning.stamp ≤ later) (largest : length meaning.packet ≤ rule.largest)
+        (count_is : next.count ≡ row.count - gone + 1) (fits : pages_in (drop gone records) + charge_of (length meaning.packet) ≤ next.size) where
+      pub left_read : each (read_extent image) (extents_from (end_of row) trim.link trim.links) ≡ Some trim.left
+      left_read = sym (ap (λ (l : List Link). each (read_extent image) (extents_to (end_of row) l)) trim.some) ∙ trim.read
 
-        ended : (f n k g m : ℕ) → k ≤ n → g ≡ (f + k) % 4294967296 → m ≡ n - k + 1 → (g + m) % 4294967296 ≡ ((f + n) % 4294967296 + 1) % 4294967296
-        ended f n k g m le is count = omega (arith, le, is, count)
+      pub ended_more : end_of next ≡ (end_of row + 1) % 4294967296
+      ended_more = ended row.first row.count gone next.first next.count few first_is count_is
+        where
+          ended : (f n k g m : ℕ) → k ≤ n → g ≡ (f + k) % 4294967296 → m ≡ n - k + 1 → (g + m) % 4294967296 ≡ ((f + n) % 4294967296 + 1) % 4294967296
+          ended f n k g m le is count = omega (arith, le, is, count)
 
-        extents_next : each (read_extent image) (extents_of next (trim_front next.first link rest)) ≡ Some (with_record trim.left meaning)
-        extents_next =
-            let there : record_at (block_octets image (last_of trim.link trim.links).block) (end_of row) (pages_in (last_read trim.left)) ≡ Some meaning =
-            ap (λ (l : Link). record_at (block_octets image l.block) (end_of row) (pages_in (last_read trim.left))) trim.last_is
-            ∙ ap (λ (x : List Meaning). record_at (block_octets image (last_of link rest).block) (end_of row) (pages_in x)) trim.last_same ∙ spelled in
-            ap (λ (l : List Link). each (read_extent image) (extents_to (end_of next) l)) trim.some
-            ∙ ap (λ (n : ℕ). each (read_extent image) (extents_from n trim.link trim.links)) (ended row.first row.count gone next.first next.count few first_is count_is)
-            ∙ extents_more blocks image keeps.pages (end_of row) trim.link trim.links trim.left meaning trim.own (omega arith) (subst (λ (l : Link). between l.first (end_of row) < 4294967295) (sym trim.last_is) short_last) left_read there
+      extents_next : each (read_extent image) (extents_of next (trim_front next.first link rest)) ≡ Some (with_record trim.left meaning)
+      extents_next =
+          let there : record_at (block_octets image (last_of trim.link trim.links).block) (end_of row) (pages_in (last_read trim.left)) ≡ Some meaning =
+          ap (λ (l : Link). record_at (block_octets image l.block) (end_of row) (pages_in (last_read trim.left))) trim.last_is
+          ∙ ap (λ (x : List Meaning). record_at (block_octets image (last_of link rest).block) (end_of row) (pages_in x)) trim.last_same ∙ spelled in
+          ap (λ (l : List Link). each (read_extent image) (extents_to (end_of next) l)) trim.some
+          ∙ ap (λ (n : ℕ). each (read_extent image) (extents_from n trim.link trim.links)) ended_more
+          ∙ extents_more blocks image keeps.pages (end_of row) trim.link trim.links trim.left meaning trim.own (omega arith) (subst (λ (l : Link). between l.first (end_of row) < 4294967295) (sym trim.last_is) short_last) left_read there
+
+      -- no more of them are dead
+      pub dead_within : dead_by next.first (trim_front next.first link rest) ≤ length (joined trim.left)
+      dead_within = omega (arith, trim.within, far_is, counted rule blocks image now row links records keeps, few)
+
+      pub more_are : (are : KeptAre rule image later next (trim_front next.first link rest) (drop gone records ++ meaning ∷ [])) × (are.reads ≡ with_record trim.left meaning)
+      more_are =
+          let (x, xs, whole) = some_read image (end_of row) trim.link trim.links trim.left left_read in
+          let more : joined (with_record trim.left meaning) ≡ joined trim.left ++ meaning ∷ [] =
+          ap (λ (l : List (List Meaning)). joined (with_record l meaning)) (sym whole) ∙ joined_more x xs meaning ∙ ap (λ (l : List (List Meaning)). joined l ++ meaning ∷ []) whole in (
+            record {
+              begins = begins (row.count - gone) (omega (arith, count_is));
+              reads = with_record trim.left meaning;
+              read = extents_next;
+              live =
+                  ap (drop (dead_by next.first (trim_front next.first link rest))) more
+                  ∙ drop-append-le (dead_by next.first (trim_front next.first link rest)) (joined trim.left) (meaning ∷ []) dead_within
+                  ∙ ap (λ (l : List Meaning). l ++ meaning ∷ []) left_records;
+              filled = filled_more rule.least trim.left meaning ∙ trim.filled rule.least old.filled;
+              short = ap (are_short rule.largest) more ∙ short_more rule.largest (joined trim.left) meaning (trim.all_short rule.largest old.short) largest;
+              rise = rise_more now later 0 (drop gone records) meaning (omega arith) low high still_rise;
+              fits = le-leb (pages_in (drop gone records ++ meaning ∷ [])) next.size (omega (arith, content_more (drop gone records) meaning, fits));
+            },
+            refl,
+          )
+
+      pub one_more : kept_of rule image later next (trimmed next.first next.count links) ≡ Some (drop gone records ++ meaning ∷ [])
+      one_more =
+          ap (kept_of rule image later next) (kept_links (row.count - gone) (omega (arith, count_is)))
+          ∙ parts_kept rule image later next (trim_front next.first link rest) (drop gone records ++ meaning ∷ []) more_are.0

@@ -26,6 +26,19 @@ short_rest largest (meaning ∷ records) rest h = short_rest largest records res
 filled_rest : (least : ℕ) (records : List Meaning) (x : List Meaning) (xs : List (List Meaning)) → are_filled least (records ∷ x ∷ xs) ≡ true → are_filled least (x ∷ xs) ≡ true
 filled_rest least records x xs h = two (nat_le least (pages_in records)) (are_filled least (x ∷ xs)) h
 
+-- the records from a link on to a number behind the next link
+pub split_front : (blocks : ℕ) (image : ℕ → List ℕ) (content : IsContent blocks image) (first : ℕ) (low : first < 4294967296) (link next : Link) (links : List Link) (records : List Meaning)
+    → All (IsLinkOf blocks) (link ∷ next ∷ links) → read_extent image (extent_to next.first link) ≡ Some records → between next.first first < 2147483648
+    → between link.first first ≡ length records + between next.first first
+split_front blocks image content first low link next links records own read near_next =
+    let long : length records ≡ between link.first next.first = extent_length image (extent_to next.first link) records read in
+    let here = All-head (IsLinkOf blocks) link (next ∷ links) own in
+    let there = All-head (IsLinkOf blocks) next links (All-tail (IsLinkOf blocks) link (next ∷ links) own) in
+    let within = extent_within blocks image content (extent_to next.first link) records here.block read in
+    let few = few_records records in
+    sum_between link.first next.first first here.first there.first low (omega (arith, long, within, few, near_next))
+    ∙ ap (λ (n : ℕ). n + between next.first first) (sym long)
+
 -- trimming the front
 pub trimmed_read : (blocks : ℕ) (image : ℕ → List ℕ) (content : IsContent blocks image) (end first : ℕ) (link : Link) (links : List Link) (reads : List (List Meaning)) → All (IsLinkOf blocks) (link ∷ links) → first < 4294967296
     → each (read_extent image) (extents_from end link links) ≡ Some reads → between link.first first < 2147483648
@@ -69,15 +82,9 @@ trimmed_read blocks image content end first link (next ∷ links) reads own lt h
     pick again true is =
         let (records, rest, read, are, whole) = each_cons (read_extent image) (extent_to next.first link) (extents_from end next links) reads h in
         let near_next = by_low next.first first is in
-        let long : length records ≡ between link.first next.first = extent_length image (extent_to next.first link) records read in
-        let here = All-head (IsLinkOf blocks) link (next ∷ links) own in
-        let behind_it = All-tail (IsLinkOf blocks) link (next ∷ links) own in
-        let there = All-head (IsLinkOf blocks) next links behind_it in
-        let within = extent_within blocks image content (extent_to next.first link) records here.block read in
-        let few = few_records records in
-        let far : between link.first first ≡ between link.first next.first + between next.first first = sum_between link.first next.first first here.first there.first lt (omega (arith, long, within, few, near_next)) in
+        let split : between link.first first ≡ length records + between next.first first =
+        split_front blocks image content first lt link next links records own read near_next in
         let deeper = again rest are near_next in
-        let split : between link.first first ≡ length records + between next.first first = omega (arith, far, long) in
         let front : drop (between link.first first) (joined reads) ≡ drop (between next.first first) (joined rest) =
         ap (λ (l : List (List Meaning)). drop (between link.first first) (joined l)) (sym whole) ∙ ap (λ (n : ℕ). drop n (records ++ joined rest)) split ∙ drop-append-add records (joined rest) (between next.first first) in
         let total : length (joined reads) ≡ length records + length (joined rest) = ap (λ (l : List (List Meaning)). length (joined l)) (sym whole) ∙ length-append records (joined rest) in

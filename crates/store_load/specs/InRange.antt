@@ -9,6 +9,7 @@ use Rattle.store_directory.specs.declared.row.Row.{Row}
 use Rattle.time_index.specs.TimeIndex.{TimeIndex, pages_of}
 use Rattle.time_index.specs.declared.entry.Entry.{Entry}
 use Rattle.store_load.specs.Extents.{end_of, last_of}
+use Rattle.store_load.specs.Kept.{begins_well}
 use Rattle.store_load.specs.declared.rule.Rule.{Rule}
 
 -- the block of the link that holds a record number: the last one whose first number is at it or
@@ -52,10 +53,11 @@ AreFull least number used link (next ∷ links) entries =
     (least ≤ pages_of (entries_between number link.first next.first entries))
     × AreFull least number used next links entries
 
--- so do those of each block behind the first one, which may have dead records too
+-- So do those of each block behind the first one, which may have dead records too: the entries of an
+-- only block use no more pages than these.
 abbrev pub AreFilled : (least number used : ℕ) → List Link → List Entry → Type 0
 AreFilled least number used [] entries = used ≡ 0
-AreFilled least number used (link ∷ []) entries = ⊤
+AreFilled least number used (link ∷ []) entries = pages_of entries ≤ used
 AreFilled least number used (link ∷ next ∷ links) entries =
     AreFull least number used next links entries
 
@@ -68,6 +70,7 @@ pub record IsPlaced (rule : Rule) (now : ℕ) (entry : Entry) : Type 0 where
 
 pub record IsInRange (rule : Rule) (now : ℕ) (row : Row) (links : List Link) (index : TimeIndex)
     (used : ℕ) : Type 0 where
+  pub begins : begins_well row links ≡ true
   pub first : index.first ≡ row.first
   pub count : length index.entries ≡ row.count
   pub size : index.size ≡ row.size

@@ -11,3 +11,4 @@ pub mod Loading
 pub mod Loaded
 pub mod Held
 pub mod InRange
+pub mod Renewing

@@ -1,7 +1,9 @@
 -- How a store goes on: its front goes, and records are put behind its last one.
-use Rattle.std.specs.Prelude.{◌≡◌, ◌≤◌, ℕ, ◌+◌, ◌-◌, ◌%◌, ◌^◌, List, length}
+use Rattle.std.specs.Prelude.{◌≡◌, ◌≤◌, ℕ, ◌+◌, ◌-◌, ◌%◌, ◌^◌, List, [], ◌∷◌, drop, length}
+use Rattle.std.specs.Option.{option_map}
 use Rattle.record_view.specs.Records.{Meaning}
 use Rattle.record_view.specs.declared.link.Link.{Link}
+use Rattle.store_directory.specs.Rows.{between}
 use Rattle.store_directory.specs.declared.row.Row.{Row}
 use Rattle.store_load.specs.Extents.{Extent, end_of, extent_to, last_of, read_extent}
 use Rattle.store_load.specs.Frame.{pages_read}
@@ -26,3 +28,15 @@ pub record IsNext (rule : Rule) (now later : ℕ) (meaning : Meaning) : Type 0 w
   pub since : now ≤ meaning.stamp
   pub by : meaning.stamp ≤ later
   pub short : length meaning.packet ≤ rule.largest
+
+-- A block spells the live records of a store's last one under the same numbers: if that is its only
+-- one, from the store's first record on, and else from the first of the last link on.
+abbrev pub SpellsLast : (image : ℕ → List ℕ) → Row → List Link → (new : Link) → Type 0
+SpellsLast image row [] new = ⊥
+SpellsLast image row (link ∷ []) new =
+    (new.first ≡ row.first)
+    × (read_extent image (extent_to (end_of row) new)
+    ≡ option_map (drop (between link.first row.first)) (read_extent image (extent_to (end_of row) link)))
+SpellsLast image row (link ∷ next ∷ links) new =
+    (new.first ≡ (last_of next links).first)
+    × (read_extent image (extent_to (end_of row) new) ≡ read_extent image (last_extent row link (next ∷ links)))

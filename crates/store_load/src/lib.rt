@@ -2,6 +2,7 @@
 #![tactic(auto)]
 
 mod claiming;
+mod indexes;
 mod laws;
 mod link_loading;
 mod loading;
@@ -10,6 +11,10 @@ mod stop;
 mod store_loading;
 
 pub use claiming::claim;
+pub use indexes::{
+    entries_move_one_by_one, indexes_begin_blocks, indexes_get_their_records,
+    indexes_lose_their_fronts, indexes_move_to_new_blocks, indexes_stay,
+};
 pub use laws::{
     blocks_are_begun, fronts_go, indexes_list_the_kept_records, last_blocks_may_be_swapped,
     loaded_stores_are_in_range, records_are_appended, rows_count_their_records,
