@@ -1,0 +1,17 @@
+pub mod Asked
+pub mod Room
+pub mod Stepping
+pub mod Outcomes
+pub mod Stays
+pub mod Finding
+pub mod PatternLists
+pub mod Applying
+pub mod Storing
+pub mod Effects
+pub mod Walking
+pub mod Holding
+pub mod Tables
+pub mod Contents
+pub mod Reporting
+pub mod Ends
+pub mod Examples

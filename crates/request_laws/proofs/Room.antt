@@ -1,0 +1,69 @@
+-- The change of an instruction takes no memory.
+use Rattle.std.proofs.Common.{◌≡◌, ℕ, ◌<◌, ◌≤◌, ◌==◌, Bool, true, false, List, [], ◌∷◌, Option, Some, None, refl, sym, ◌∙◌, ap, subst, arith}
+use Rattle.std.specs.Prelude.{if◌then◌else◌}
+use Rattle.std.specs.Option.{option_map}
+use Rattle.std.proofs.lemmas.Bool.{eqb-true}
+use Rattle.std.proofs.lemmas.Option.{none-some, same_Some}
+use Rattle.control_defs.specs.declared.instructions.Instruction.{Instruction}
+use Rattle.control_defs.specs.declared.instructions.Instruction.TheVariants.{ForwardAdd, ForwardDelete, ForwardReport, Enable, Disable, AddTypes, DeleteTypes, ReportTypes, StartRange, DeleteUpTo, Summary, OpenFrom, Resume, Suspend, Abort, Status, Create, Remove, Configuration, Copy, Resize, ToCircular, ToBounded, Channel}
+use Rattle.store_directory.specs.Changes.{Change, Forward, Put, Types}
+use Rattle.store_directory.specs.Directory.{Directory, Listed, find_store}
+use Rattle.store_directory.specs.Kept.{NeedsRoom}
+use Rattle.store_directory.specs.Slots.{size_of}
+use Rattle.request_laws.specs.Changing.{change_by, with_open, with_storage}
+
+-- a store that is found has the identifier
+found_own : (identifier : ℕ) (listed : List Listed) (s : Listed) → find_store identifier listed ≡ Some s → identifier ≡ s.identifier
+found_own identifier [] s is = absurd (none-some s is)
+found_own identifier (l ∷ listed) s is = by (identifier == l.identifier) refl (found_own identifier listed s) is
+  where
+    by : (test : Bool) → (identifier == l.identifier) ≡ test → (find_store identifier listed ≡ Some s → identifier ≡ s.identifier)
+        → (if test then Some l else find_store identifier listed) ≡ Some s → identifier ≡ s.identifier
+    by true same rest is = eqb-true identifier l.identifier same ∙ ap (λ (x : Listed). x.identifier) (same_Some l s is)
+    by false same rest is = rest is
+
+module _ (d : Directory) (change : Change) (largest : ℕ → ℕ) (had : (identifier : ℕ) → size_of (find_store identifier d.stores) ≤ largest identifier) where
+  -- the change that the row of a store makes, which keeps its size, and any other one
+  by_store : (identifier : ℕ) (by : Listed → Change) → ((s : Listed) → s.size ≤ largest s.identifier → NeedsRoom (by s) largest → ⊥)
+      → option_map by (find_store identifier d.stores) ≡ Some change → NeedsRoom change largest → ⊥
+  by_store identifier by each is needs = go (find_store identifier d.stores) refl is
+    where
+      go : (found : Option Listed) → find_store identifier d.stores ≡ found → option_map by found ≡ Some change → ⊥
+      go None found is = none-some change is
+      go (Some s) found is =
+          let own = found_own identifier d.stores s found in
+          let size : s.size ≤ largest identifier = subst (λ (o : Option Listed). size_of o ≤ largest identifier) found (had identifier) in
+          each s (subst (λ (n : ℕ). s.size ≤ largest n) own size) (subst (λ (c : Change). NeedsRoom c largest) (sym (same_Some (by s) change is)) needs)
+
+  no_more : (size most : ℕ) → size ≤ most → most < size → ⊥
+  no_more size most within more = omega (arith, within, more)
+
+  none_here : (item : Instruction) → change_by d item ≡ Some change → NeedsRoom change largest → ⊥
+  none_here (ForwardAdd pattern) is needs = subst (λ (c : Change). NeedsRoom c largest) (sym (same_Some (Forward true pattern) change is)) needs
+  none_here (ForwardDelete pattern) is needs = subst (λ (c : Change). NeedsRoom c largest) (sym (same_Some (Forward false pattern) change is)) needs
+  none_here (Enable store) is needs = by_store store (λ (s : Listed). Put (with_storage true s.row)) (λ s. no_more s.size (largest s.identifier)) is needs
+  none_here (Disable store) is needs = by_store store (λ (s : Listed). Put (with_storage false s.row)) (λ s. no_more s.size (largest s.identifier)) is needs
+  none_here (AddTypes store pattern) is needs = by_store store (λ (s : Listed). Types store true pattern) (λ s within more. more) is needs
+  none_here (DeleteTypes store pattern) is needs = by_store store (λ (s : Listed). Types store false pattern) (λ s within more. more) is needs
+  none_here (Resume store) is needs = by_store store (λ (s : Listed). Put (with_open true s.row)) (λ s. no_more s.size (largest s.identifier)) is needs
+  none_here (Suspend store) is needs = by_store store (λ (s : Listed). Put (with_open false s.row)) (λ s. no_more s.size (largest s.identifier)) is needs
+  none_here ForwardReport is needs = none-some change is
+  none_here (ReportTypes store) is needs = none-some change is
+  none_here (StartRange store t1 t2) is needs = none-some change is
+  none_here (DeleteUpTo store t) is needs = none-some change is
+  none_here (Summary store) is needs = none-some change is
+  none_here (OpenFrom store t) is needs = none-some change is
+  none_here (Abort store) is needs = none-some change is
+  none_here Status is needs = none-some change is
+  none_here (Create store kind size channel) is needs = none-some change is
+  none_here (Remove store) is needs = none-some change is
+  none_here Configuration is needs = none-some change is
+  none_here (Copy from to t1 t2) is needs = none-some change is
+  none_here (Resize store size) is needs = none-some change is
+  none_here (ToCircular store) is needs = none-some change is
+  none_here (ToBounded store) is needs = none-some change is
+  none_here (Channel store channel) is needs = none-some change is
+
+pub no_room : (d : Directory) (item : Instruction) (change : Change) (largest : ℕ → ℕ) → ((identifier : ℕ) → size_of (find_store identifier d.stores) ≤ largest identifier)
+    → change_by d item ≡ Some change → NeedsRoom change largest → ⊥
+no_room d item change largest had is needs = none_here d change largest had item is needs
