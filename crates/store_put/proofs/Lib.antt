@@ -1,0 +1,15 @@
+pub mod Spots
+pub mod Laid
+pub mod Stepped
+pub mod Places
+pub mod Going
+pub mod Naming
+pub mod Made
+pub mod Refused
+pub mod Held
+pub mod FreeCount
+pub mod EachPlace
+pub mod Unlinked
+pub mod Walked
+pub mod StaysOn
+pub mod OwnBlocks

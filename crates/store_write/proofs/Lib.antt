@@ -1,0 +1,10 @@
+mod Copied
+mod Entries
+mod Lying
+mod Offsets
+mod Ranges
+mod RangesOn
+mod Running
+mod Shared
+mod Spelling
+mod Steps
