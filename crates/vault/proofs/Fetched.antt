@@ -22,7 +22,7 @@ use Rattle.vault.proofs.EachStores.{each_store_at}
 use Rattle.vault.proofs.Loads.{all_at, own_at}
 use Rattle.vault.proofs.Places.{some_at}
 use Rattle.vault.proofs.Positions.{IsThere, and_some, some_and}
-use Rattle.vault.proofs.Spelled.{spelled_there}
+use Rattle.store_load.proofs.Spelled.{spelled_there}
 use Rattle.vault.specs.Fetching.{HasPacket, Holds, IsRecordAt, KeepsRecord, vault_fault_of}
 use Rattle.vault.specs.Memory.{InMemory, IsSound}
 use Rattle.vault.specs.Standing.{IsStoreOf, StandsFor}

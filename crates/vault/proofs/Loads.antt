@@ -49,17 +49,19 @@ pub loaded_store : (blocks now read : ℕ) (told : Type 0) (image : ℕ → List
     → IsLoadedStore told image now s index (record { used = used; stale = has_link s.links })
 loaded_store blocks now read told image s row links index used n r l listed own index_is used_is held =
     let numbers = row_numbers s.row listed.lawful in
+    let here : IsHeld table_rule now s.row s.links index used =
+    subst (λ n. IsHeld table_rule n s.row s.links index used) n
+    (subst (λ r. IsHeld table_rule read r s.links index used) r
+    (subst (λ l. IsHeld table_rule read row l index used) l held)) in
     record {
       index_is = λ yes. sym (λ i. index_of table_rule image (n i) (r i) (l i)) ∙ index_is yes;
       used_is = λ yes. used_is yes ∙ (λ i. used_in image (r i) (l i));
       stale_is = refl;
       in_range =
-          in_range table_rule blocks now s.row s.links index used
-          (subst (λ n. IsHeld table_rule n s.row s.links index used) n
-          (subst (λ r. IsHeld table_rule read r s.links index used) r
-          (subst (λ l. IsHeld table_rule read row l index used) l held)))
+          in_range table_rule blocks now s.row s.links index used here
           (λ k default lt. record { block = own k default lt; first = (listed.fitting k default lt).1 })
           (omega (arith, listed.links, numbers.0)) (omega arith) listed.lawful listed.fits.first;
+      begins = here.begins;
     }
 
 -- a store is loaded from a board that still is as it was
@@ -70,6 +72,7 @@ loaded_since old new before after now s index last tells same loaded = record {
   used_is = λ told. loaded.used_is (tells told) ∙ ap (λ image. used_in image s.row s.links) (same told);
   stale_is = loaded.stale_is;
   in_range = loaded.in_range;
+  begins = loaded.begins;
 }
 
 -- how many of them it has

@@ -3,6 +3,8 @@ pub mod Memory
 pub mod Loading
 pub mod Standing
 pub mod Changing
+pub mod Requests
 pub mod Opening
 pub mod Fetching
+pub mod Granting
 pub mod Lending

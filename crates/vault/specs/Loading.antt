@@ -1,8 +1,9 @@
 -- The stores of a directory, as they are loaded one after another.
-use Rattle.std.specs.Prelude.{◌≡◌, ℕ, List, [], ◌∷◌, ◌++◌, length, Option, Some, None}
+use Rattle.std.specs.Prelude.{◌≡◌, ℕ, true, List, [], ◌∷◌, ◌++◌, length, Option, Some, None}
 use Rattle.image_table.specs.Table.{table_rule}
 use Rattle.store_directory.specs.Directory.{Listed}
 use Rattle.store_load.specs.InRange.{IsInRange}
+use Rattle.store_load.specs.Kept.{begins_well}
 use Rattle.store_load.specs.Loaded.{index_of, used_in}
 use Rattle.time_index.specs.TimeIndex.{TimeIndex}
 use Rattle.vault.specs.Memory.{has_link}
@@ -15,6 +16,7 @@ pub record IsLoadedStore (told : Type 0) (image : ℕ → List ℕ) (now : ℕ) 
   pub used_is : told → last.used ≡ used_in image s.row s.links
   pub stale_is : last.stale ≡ has_link s.links
   pub in_range : IsInRange table_rule now s.row s.links index last.used
+  pub begins : begins_well s.row s.links ≡ true
 
 -- a store of which the image keeps no records
 abbrev pub IsUnlawful : (image : ℕ → List ℕ) → (now : ℕ) → Listed → Type 0

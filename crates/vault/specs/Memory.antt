@@ -9,6 +9,7 @@ use Rattle.store_directory.specs.Directory.{IsDirectory, Listed, is_new, reserve
 use Rattle.store_directory.specs.Kept.{Kept}
 use Rattle.store_load.specs.Claims.{all_links, block_of, may_share}
 use Rattle.store_load.specs.InRange.{IsInRange}
+use Rattle.store_load.specs.Kept.{begins_well}
 use Rattle.store_policy.specs.Shown.{AreTogether}
 use Rattle.store_policy.specs.declared.view.View.{View}
 use Rattle.time_index.specs.TimeIndex.{TimeIndex}
@@ -37,10 +38,12 @@ EachStore P (s ∷ stores) (index ∷ indexes) (last ∷ lasts) =
     P s index last × EachStore P stores indexes lasts
 EachStore P _ _ _ = ⊥
 
--- A store's row and its index are those of one store, and no number or place is out of range.
+-- A store's row and its index are those of one store, and no number or place is out of range. Its first
+-- block is the one with its first record.
 pub record IsSoundStore (now : ℕ) (s : Listed) (index : TimeIndex) (last : LastBlock) : Type 0 where
   pub together : AreTogether s.row index
   pub in_range : IsInRange table_rule now s.row s.links index last.used
+  pub begins : begins_well s.row s.links ≡ true
 
 -- a data block of a device of so many blocks that no store has
 abbrev pub is_unlinked : (blocks : ℕ) → List Listed → (block : ℕ) → Bool

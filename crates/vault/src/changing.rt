@@ -8,11 +8,12 @@ ghost use Rattle.board.specs.Meaning.{TellsFlash};
 ghost use Rattle.board.specs.Moments.{LeavesOnly};
 ghost use Rattle.board.specs.Touches.{Touches};
 ghost use Rattle.commit_gate.specs.Entries.{payload_pages};
-ghost use Rattle.meta_journal.specs.Journals.{Holds};
-ghost use Rattle.meta_journal.specs.Standing.{StandsFor};
+ghost use Rattle.meta_journal.specs.Journals.{Holds, HoldsEither};
+ghost use Rattle.meta_journal.specs.Standing.{AllFirm, StandsFor};
 ghost use Rattle.store_directory.specs.Changes.{apply};
 ghost use Rattle.store_directory.specs.Directory.{Directory as Kept, IsDirectory};
 ghost use Rattle.store_directory.specs.Entries.{CanBeWritten, FitsChange, change_octets};
+ghost use Rattle.store_directory.specs.Folds.{fold_entry};
 ghost use Rattle.store_directory.specs.Kept.{change_of};
 ghost use Rattle.vault.specs.Changing.{HoldsOne, IsKept, if_short, journal_pages};
 
@@ -23,9 +24,9 @@ use store_directory::{Change, Directory, write_change};
 // The pages of the longest entry: its gate, and 20 of its text.
 const LONGEST: u32 = 21;
 
-// Makes room for the longest entry, if there is less: writes the directory, with the erase counts of
-// all blocks, as the checkpoint of the half that does not count, and makes it count.
-fn make_room<B: Board>(
+/// Makes room for the longest entry, if there is less: writes the directory, with the erase counts of
+/// all blocks, as the checkpoint of the half that does not count, and makes it count.
+pub(crate) fn make_room<B: Board>(
     board: &mut B,
     directory: &Directory,
     wear: &[u32],
@@ -65,6 +66,49 @@ fn make_room<B: Board>(
     journal.switch(board, &buffer[..size])
 }
 
+/// Adds an entry to the journal, with the text of changes.
+pub(crate) fn add_entry<B: Board>(
+    board: &mut B,
+    entry: &[u8],
+    journal: &mut Journal,
+) -> Result<(), Failed>
+    requires shortest { 1 ≤ length entry.now }
+    requires longest { length entry.now ≤ 5116 }
+    requires room { 21 ≤ journal.old.room }
+    requires stands { TellsFlash B.means board.old
+        → StandsFor journal.old (B.means.flash board.old) }
+
+    ensures stands { OnOk result (TellsFlash B.means board.old
+        → StandsFor journal.new (B.means.flash board.new)) }
+    ensures holds { OnOk result (TellsFlash B.means board.old → (before after : Kept)
+        → IsKept (B.means.device board.old).blocks before (B.means.flash board.old)
+        → fold_entry before entry.now ≡ Some after
+        → IsKept (B.means.device board.old).blocks after (B.means.flash board.new)) }
+    ensures any_moment { TellsFlash B.means board.old → (before after : Kept)
+        → IsKept (B.means.device board.old).blocks before (B.means.flash board.old)
+        → fold_entry before entry.now ≡ Some after
+        → LeavesOnly B.means board.old board.new
+        (HoldsOne (B.means.device board.old).blocks before after) }
+
+    // An image with the directory from before has each other page that was firm as it was, and one
+    // with the directory behind has each other page as it was written, also one that was loose.
+    ensures either { TellsFlash B.means board.old → (before after : Kept)
+        → IsKept (B.means.device board.old).blocks before (B.means.flash board.old)
+        → fold_entry before entry.now ≡ Some after
+        → LeavesOnly B.means board.old board.new
+        (HoldsEither (B.means.device board.old).blocks journal_pages (B.means.flash board.old)
+        before after) }
+    ensures is_firm { OnOk result (TellsFlash B.means board.old → AllFirm (B.means.flash board.new)) }
+    ensures touches { Touches B.means journal_pages (1 + payload_pages (length entry.now)) 0 2
+        board.old board.new }
+    ensures no_fault { OnOk result
+        ((B.means.counts board.new).flash_faults ≡ (B.means.counts board.old).flash_faults) }
+    ensures cause { OnErr result
+        (Rose (B.means.counts board.old).flash_faults (B.means.counts board.new).flash_faults) }
+{
+    journal.commit(board, entry)
+}
+
 // Adds a change to the journal, as an entry of its own.
 fn add<B: Board>(
     board: &mut B,
@@ -92,6 +136,13 @@ fn add<B: Board>(
         → apply before (change_of change.now) ≡ Some after
         → LeavesOnly B.means board.old board.new
         (HoldsOne (B.means.device board.old).blocks before after) }
+    ensures either { TellsFlash B.means board.old → (before after : Kept)
+        → IsKept (B.means.device board.old).blocks before (B.means.flash board.old)
+        → apply before (change_of change.now) ≡ Some after
+        → LeavesOnly B.means board.old board.new
+        (HoldsEither (B.means.device board.old).blocks journal_pages (B.means.flash board.old)
+        before after) }
+    ensures is_firm { OnOk result (TellsFlash B.means board.old → AllFirm (B.means.flash board.new)) }
     ensures touches { Touches B.means journal_pages
         (1 + payload_pages (length (change_octets (change_of change.now)))) 0 2
         board.old board.new }
@@ -101,7 +152,7 @@ fn add<B: Board>(
         (Rose (B.means.counts board.old).flash_faults (B.means.counts board.new).flash_faults) }
 {
     let size = write_change(change, 0, buffer) as usize;
-    journal.commit(board, &buffer[..size])
+    add_entry(board, &buffer[..size], journal)
 }
 
 /// Makes a change of a directory durable, where the flash holds the directory from before it. The
@@ -137,6 +188,14 @@ pub(crate) fn save<B: Board>(
         → apply directory.now.directory (change_of change.now) ≡ Some after
         → LeavesOnly B.means board.old board.new
         (HoldsOne (B.means.device board.old).blocks directory.now.directory after) }
+    ensures either { TellsFlash B.means board.old → (after : Kept)
+        → IsKept (B.means.device board.old).blocks directory.now.directory
+        (B.means.flash board.old)
+        → apply directory.now.directory (change_of change.now) ≡ Some after
+        → LeavesOnly B.means board.old board.new
+        (HoldsEither (B.means.device board.old).blocks journal_pages (B.means.flash board.old)
+        directory.now.directory after) }
+    ensures is_firm { OnOk result (TellsFlash B.means board.old → AllFirm (B.means.flash board.new)) }
     ensures touches { Touches B.means journal_pages
         (if_short journal.old.room 85
         + (1 + payload_pages (length (change_octets (change_of change.now)))))

@@ -51,3 +51,21 @@ pub enum VaultFault {
         found: u32,
     },
 }
+
+/// Why a request was not carried out. The table is closed after `Flash` and `Mismatch`, and is as
+/// before after `NoMemory`.
+#[derive(Clone, Copy, Debug, PartialEq, Eq)]
+pub enum ChangeFault {
+    /// A call of the flash failed.
+    Flash,
+    /// What was kept of a record is not what is found at its place: of its number, its length, the
+    /// version of a packet (kept as 0) and the packet's own length, the first that differs.
+    Mismatch {
+        block: u32,
+        page: u32,
+        kept: u32,
+        found: u32,
+    },
+    /// An allocation failed.
+    NoMemory,
+}

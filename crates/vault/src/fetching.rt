@@ -27,7 +27,7 @@ use record_view::RecordView;
 use time_index::Index;
 
 // A fault of a record that was not loaded.
-fn fault_of(fault: LoadFault) -> VaultFault
+pub(crate) fn fault_of(fault: LoadFault) -> VaultFault
     ensures { result ≡ vault_fault_of fault }
 {
     match fault {
@@ -99,7 +99,12 @@ impl Vault {
     }
 
     // Loads the record at a position of a store, and holds it.
-    fn load<B: Board>(&mut self, board: &mut B, at: u32, position: u32) -> Result<(), VaultFault>
+    pub(crate) fn load<B: Board>(
+        &mut self,
+        board: &mut B,
+        at: u32,
+        position: u32,
+    ) -> Result<(), VaultFault>
         requires is_open { self.old.is_open ≡ true }
         requires blocks { self.old.blocks ≡ (B.means.device board.old).blocks }
         requires within { IsPosition self.old at position }
@@ -127,7 +132,7 @@ impl Vault {
     }
 
     // The record that is held.
-    fn held(&self) -> RecordView<'_>
+    pub(crate) fn held(&self) -> RecordView<'_>
         requires { IsPacket self.now.held.packet }
         ensures same { meaning_of result ≡ self.now.held }
         ensures stamp { result.stamp < 2 ^ 48 }

@@ -2,8 +2,9 @@
 //
 // Of 16 blocks, with two stores. The first one has the records 5, 6 and 7 in block 7, of which 5 is
 // dead. The second one is bounded and has none.
-ghost use Rattle.std.specs.Prelude.{◌≡◌, ◌≤◌, length, IfOk};
-ghost use Rattle.board.specs.Memory.{device_of};
+ghost use Rattle.std.specs.Prelude.{◌≡◌, IfOk, length};
+ghost use Rattle.board.specs.Memory.{flash_of};
+ghost use Rattle.meta_journal.specs.Standing.{AllFirm};
 
 use board::MemBoard;
 use std::alloc::{AllocError, Global};
@@ -50,12 +51,12 @@ fn put_root(image: &mut [u8], at: usize, generation: u8) {
     put(image, at.saturating_add(20), &[generation]);
 }
 
-// Writes a record into a page of block 7.
-fn put_record(image: &mut [u8], page: u8, number: u8, stamp: u8) {
-    let at = BLOCK + 256 * usize::from(page);
+// Writes a record into a page of a block, by the block's first octet.
+fn put_record(image: &mut [u8], block: usize, page: u8, number: u8, stamp: u8) {
+    let at = block.saturating_add(256 * usize::from(page));
     let head = [0, 0, 0, 0, 0, stamp, 0, 0, 0, number, 0, 8, 0, 0, 0, 0];
     put(image, at, &head);
-    put(image, at + 16, &PACKET);
+    put(image, at.saturating_add(16), &PACKET);
 }
 
 // Writes an entry of a text of less than 252 octets behind the checkpoint of half 0.
@@ -80,12 +81,20 @@ fn put_journal(image: &mut [u8], generations: [u8; 3], halves: [bool; 2]) {
 
 // Writes the records 5, 6 and 7, of the times 3, 4 and 9, and changes octets.
 fn put_records(image: &mut [u8], patches: &[Patch]) {
-    put_record(image, 0, 5, 3);
-    put_record(image, 1, 6, 4);
-    put_record(image, 2, 7, 9);
+    put_record(image, BLOCK, 0, 5, 3);
+    put_record(image, BLOCK, 1, 6, 4);
+    put_record(image, BLOCK, 2, 7, 9);
     for (at, octet) in patches {
         put(image, *at, &[*octet]);
     }
+}
+
+// A device of 16 blocks with this image.
+fn board_of(alloc: Global, image: Vec<u8>) -> Result<MemBoard, AllocError>
+    requires { length image.items ≡ 1048576 }
+    ensures { IfOk result (λ board. AllFirm (flash_of board)) }
+{
+    MemBoard::from_image(alloc, image)
 }
 
 /// A device of this image: its roots have these generations, its half 0 or 1 or each of them has
@@ -95,12 +104,14 @@ pub(crate) fn device(
     generations: [u8; 3],
     halves: [bool; 2],
     patches: &[Patch],
-) -> Result<MemBoard, AllocError> {
+) -> Result<MemBoard, AllocError>
+    ensures { IfOk result (λ board. AllFirm (flash_of board)) }
+{
     let mut image = vec![in alloc; 255u8; 65_536 * 16]?;
     let octets: &mut [u8] = &mut image;
     put_journal(octets, generations, halves);
     put_records(octets, patches);
-    MemBoard::from_image(alloc, image)
+    board_of(alloc, image)
 }
 
 /// A device with an entry behind the checkpoint of half 0.

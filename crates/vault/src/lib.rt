@@ -2,25 +2,36 @@
 //! flash, and how a change of it becomes durable.
 #![tactic(auto)]
 
+mod carrying_out;
+mod change_for;
 mod changing;
+mod entering;
 mod fault;
 mod fetching;
 mod formatting;
+mod granting;
 mod held_record;
 mod last_block;
 mod laws;
 mod loading;
 mod opening;
 mod pool;
+mod preparing;
 mod reporting;
+mod request_reports;
+mod requests;
 mod vault;
 
-pub use fault::{OpenFault, VaultFault};
+pub use fault::{ChangeFault, OpenFault, VaultFault};
 pub use laws::{
-    fetches_keep_the_table, free_blocks_are_beside_the_table, images_hold_the_table, tables_are_one,
+    copies_in_free_blocks_keep_the_table, fetches_keep_the_table, free_blocks_are_beside_the_table,
+    images_hold_the_table, renewed_blocks_keep_the_table, tables_are_one,
 };
+pub use requests::ChangeOutcome;
 pub use vault::Vault;
 
+#[cfg(test)]
+mod change_tests;
 #[cfg(test)]
 mod fetch_tests;
 #[cfg(test)]

@@ -11,7 +11,6 @@ ghost use Rattle.vault.specs.Changing.{IsAfterReport, if_short, journal_pages, w
 ghost use Rattle.vault.specs.Memory.{IsSound};
 ghost use Rattle.vault.specs.Standing.{StandsFor};
 
-use crate::changing::save;
 use crate::fault::VaultFault;
 use crate::vault::Vault;
 use board::Board;
@@ -71,31 +70,26 @@ impl Vault {
             now: self.directory.now(),
             reports: (reports + 1) % REPORTS,
         };
-        // the number of stores is not used: with it comes what the directory keeps
-        let _ = self.directory.len();
-        let wear = self.pool.wear();
-        match save(
-            board,
-            &change,
-            &self.directory,
-            wear,
-            &mut self.buffer,
-            &mut self.journal,
-        ) {
-            Ok(()) => {
-                let _ = self.directory.apply(self.alloc, &change);
-                Ok(reports)
-            }
-            Err(_) => {
-                self.is_open = false;
-                Err(VaultFault::Flash)
-            }
+        match self.enter(board, &change) {
+            Ok(()) => Ok(reports),
+            Err(fault) => Err(fault),
         }
     }
 
     /// Commits what is pending. Nothing is, since each change is committed at once: it calls nothing,
     /// and always answers `Ok`.
     pub fn flush<B: Board>(&mut self, board: &mut B) -> Result<(), VaultFault>
+        requires is_open { self.old.is_open ≡ true }
+        ensures ok { result ≡ Ok tt }
+        ensures same { self.new ≡ self.old }
+        ensures board { board.new ≡ board.old }
+    {
+        Ok(())
+    }
+
+    /// Uses a time in which no command waits. Nothing is done in it yet: it calls nothing, and always
+    /// answers `Ok`.
+    pub fn idle<B: Board>(&mut self, board: &mut B) -> Result<(), VaultFault>
         requires is_open { self.old.is_open ≡ true }
         ensures ok { result ≡ Ok tt }
         ensures same { self.new ≡ self.old }

@@ -1,0 +1,6 @@
+use Rattle.std.proofs.Common.{◌≡◌}
+use Rattle.vault.proofs.change_tests.request.Goals as goal
+
+-- the device was just made, so an opened vault stands for its table
+pub change-requires-clause-journal : goal.change-requires-clause-journal
+change-requires-clause-journal c told = (c.in-Ok.ensures.stands told c.in_ok-board.ensures).1.journal

@@ -1,0 +1,253 @@
+// What no clause says: that requests are carried out at all, and what a call that fails makes of the
+// table.
+ghost use Rattle.std.specs.Prelude.{◌≡◌, ◌<◌, true};
+ghost use Rattle.board.specs.Meaning.{TellsFlash};
+ghost use Rattle.meta_journal.specs.Standing.{StandsFor as JournalStandsFor};
+ghost use Rattle.request_laws.specs.Counting.{CanBeCarried};
+
+use super::*;
+use crate::image_writer::{HALVES, Patch, device};
+use board::{Board, CallKind, MemBoard};
+use control_defs::{Instruction, Pattern};
+use std::alloc::Global;
+use std::test::Fail;
+use store_policy::{Refusal, View};
+
+// Whether packets of the first store are stored, and its open retrieval is on; how many patterns each
+// store has, and how many are forwarded; the number of reports.
+type State = (bool, bool, [usize; 2], usize, u16);
+
+// How many instructions failed, and the first of them.
+type Failed = (usize, Option<(u8, Refusal)>);
+
+// The octet of the first store's flags, off.
+const ALL_OFF: Patch = (HALVES[0] + 22, 0);
+
+const APP: Pattern = Pattern::App(5);
+
+fn state(vault: &Vault) -> Option<State>
+    requires { vault.now.is_open ≡ true }
+{
+    let View {
+        directory,
+        indexes: _,
+        blocks: _,
+    } = vault.view();
+    if directory.len() != 2 {
+        return None;
+    }
+    let row = directory.row(0);
+    Some((
+        row.storage,
+        row.open_on,
+        [
+            directory.patterns(0).list().len(),
+            directory.patterns(1).list().len(),
+        ],
+        directory.forward().list().len(),
+        directory.reports(),
+    ))
+}
+
+// The state of a table that is opened.
+fn opened(alloc: Global, board: &mut MemBoard) -> Option<State> {
+    match Vault::open(alloc, board) {
+        Ok(vault) => state(&vault),
+        Err(_) => None,
+    }
+}
+
+// What a request does to the device of two stores, with some octets changed: what failed, and the
+// state afterwards. None if it was not carried out, or the state is another one when the device is
+// opened again.
+fn request(
+    alloc: Global,
+    patches: &[Patch],
+    items: &[Instruction],
+    acks: u8,
+) -> Result<Option<(Failed, State)>, Fail>
+    requires carried { CanBeCarried items.now }
+    requires acks { acks < 16 }
+{
+    let mut board = device(alloc, [0; 3], [true, false], patches)?;
+    let Ok(mut vault) = Vault::open(alloc, &mut board) else {
+        return Ok(None);
+    };
+    let Ok(outcome) = vault.change(alloc, &mut board, items, acks) else {
+        return Ok(None);
+    };
+    let Some(now) = state(&vault) else {
+        return Ok(None);
+    };
+    if outcome.first_report != 7 || opened(alloc, &mut board) != Some(now) {
+        return Ok(None);
+    }
+    let failed = (outcome.refused.len(), outcome.refused.first().copied());
+    Ok(Some((failed, now)))
+}
+
+const NONE: Failed = (0, None);
+
+#[test]
+fn switches_take_effect_and_stay(rt: HostRuntime) -> Result<(), Fail> {
+    let off: &[Patch] = &[ALL_OFF];
+    let done = request(rt.alloc(), &[], &[Instruction::Disable(1)], 0)?;
+    assert_eq!(rt; done, Some((NONE, (false, true, [1, 0], 0, 7))));
+    let done = request(rt.alloc(), off, &[Instruction::Enable(1)], 1)?;
+    assert_eq!(rt; done, Some((NONE, (true, false, [1, 0], 0, 8))));
+    let done = request(rt.alloc(), &[], &[Instruction::Suspend(1)], 2)?;
+    assert_eq!(rt; done, Some((NONE, (true, false, [1, 0], 0, 8))));
+    let done = request(rt.alloc(), off, &[Instruction::Resume(1)], 8)?;
+    assert_eq!(rt; done, Some((NONE, (false, true, [1, 0], 0, 8))));
+    Ok(())
+}
+
+#[test]
+fn patterns_come_and_go(rt: HostRuntime) -> Result<(), Fail> {
+    let add = Instruction::AddTypes {
+        store: 2,
+        pattern: APP,
+    };
+    let done = request(rt.alloc(), &[], &[add], 0)?;
+    assert_eq!(rt; done, Some((NONE, (true, true, [1, 1], 0, 7))));
+    let delete = Instruction::DeleteTypes {
+        store: 1,
+        pattern: Pattern::Every,
+    };
+    let done = request(rt.alloc(), &[], &[delete], 0)?;
+    assert_eq!(rt; done, Some((NONE, (true, true, [0, 0], 0, 7))));
+    let done = request(rt.alloc(), &[], &[Instruction::ForwardAdd(APP)], 0)?;
+    assert_eq!(rt; done, Some((NONE, (true, true, [1, 0], 1, 7))));
+    let done = request(rt.alloc(), &[], &[Instruction::ForwardDelete(APP)], 0)?;
+    // on the one that failed, and of completion
+    let failed = (1, Some((1, Refusal::PatternAbsent)));
+    assert_eq!(rt; done, Some((failed, (true, true, [1, 0], 0, 9))));
+    Ok(())
+}
+
+#[test]
+fn questions_count_their_reports(rt: HostRuntime) -> Result<(), Fail> {
+    let done = request(rt.alloc(), &[], &[Instruction::Status], 0)?;
+    assert_eq!(rt; done, Some((NONE, (true, true, [1, 0], 0, 8))));
+    // on the one that failed, and of completion
+    let done = request(rt.alloc(), &[], &[Instruction::Summary(9)], 0)?;
+    let failed = (1, Some((1, Refusal::UnknownStore)));
+    assert_eq!(rt; done, Some((failed, (true, true, [1, 0], 0, 9))));
+    // of acceptance, of the start, the patterns, and of completion
+    let done = request(rt.alloc(), &[], &[Instruction::ReportTypes(1)], 15)?;
+    assert_eq!(rt; done, Some((NONE, (true, true, [1, 0], 0, 11))));
+    let done = request(rt.alloc(), &[], &[Instruction::Configuration], 4)?;
+    assert_eq!(rt; done, Some((NONE, (true, true, [1, 0], 0, 8))));
+    let done = request(rt.alloc(), &[], &[Instruction::ForwardReport], 8)?;
+    assert_eq!(rt; done, Some((NONE, (true, true, [1, 0], 0, 9))));
+    Ok(())
+}
+
+#[test]
+fn the_others_stand_if_one_fails(rt: HostRuntime) -> Result<(), Fail> {
+    let items = [
+        Instruction::Disable(2),
+        Instruction::Disable(9),
+        Instruction::Disable(1),
+    ];
+    let done = request(rt.alloc(), &[], &items, 15)?;
+    // of acceptance, on the one that failed, and of completion
+    let failed = (1, Some((2, Refusal::UnknownStore)));
+    assert_eq!(rt; done, Some((failed, (false, true, [1, 0], 0, 10))));
+    Ok(())
+}
+
+// How many of two requests answer Ok: the storage of the boot store is ended, and then its open
+// retrieval. The first one makes room.
+fn carried<B: Board>(vault: &mut Vault, alloc: Global, board: &mut B) -> u16
+    requires is_open { vault.old.is_open ≡ true }
+    requires blocks { vault.old.blocks ≡ (B.means.device board.old).blocks }
+    requires journal { TellsFlash B.means board.old
+        → JournalStandsFor vault.old.journal (B.means.flash board.old) }
+{
+    let items = [Instruction::Disable(1)];
+    let Ok(_) = vault.change(alloc, board, &items, 0) else {
+        return 0;
+    };
+    let items = [Instruction::Suspend(1)];
+    let Ok(_) = vault.change(alloc, board, &items, 0) else {
+        return 1;
+    };
+    2
+}
+
+// The same on a device that is formatted and opened first; None if that failed.
+fn session<B: Board>(alloc: Global, board: &mut B) -> Option<u16> {
+    if Vault::format(board).is_err() {
+        return None;
+    }
+    match Vault::open(alloc, board) {
+        Ok(mut vault) => Some(carried(&mut vault, alloc, board)),
+        Err(_) => None,
+    }
+}
+
+// How many of the two requests a device holds; None if it was not opened.
+fn held(alloc: Global, board: &mut MemBoard) -> Option<u16> {
+    match Vault::open(alloc, board) {
+        Ok(vault) => {
+            let View {
+                directory,
+                indexes: _,
+                blocks: _,
+            } = vault.view();
+            if directory.len() == 0 {
+                return None;
+            }
+            let row = directory.row(0);
+            Some(u16::from(!row.storage) + u16::from(!row.open_on))
+        }
+        Err(_) => None,
+    }
+}
+
+#[test]
+fn a_request_is_one_entry(rt: HostRuntime) -> Result<(), Fail> {
+    let mut board = MemBoard::new(rt.alloc(), 16)?;
+    assert_eq!(rt; session(rt.alloc(), &mut board), Some(2));
+    // a format takes 4, 5 and 8, the switch 4, 5 and 8, and each request 2, 0 and 2
+    let work = [
+        board.count(CallKind::Program),
+        board.count(CallKind::Erase),
+        board.count(CallKind::Barrier),
+    ];
+    assert_eq!(rt; work, [12, 10, 20]);
+    assert_eq!(rt; held(rt.alloc(), &mut board), Some(2));
+    Ok(())
+}
+
+// Lets one call fail, and answers whether fewer requests answered then, and the device holds those or
+// one more.
+fn is_told(alloc: Global, kind: CallKind, number: u64) -> Result<bool, Fail> {
+    let mut board = MemBoard::new(alloc, 16)?;
+    board.plan(kind, number)?;
+    let Some(done) = session(alloc, &mut board) else {
+        return Ok(false);
+    };
+    let Some(held) = held(alloc, &mut board) else {
+        return Ok(false);
+    };
+    Ok(done < 2 && (held == done || held == done.saturating_add(1)))
+}
+
+#[test]
+fn each_call_that_fails_is_told(rt: HostRuntime) -> Result<(), Fail> {
+    // the calls of each kind that a format takes, and all of them
+    let kinds = [
+        (CallKind::Program, 4u64, 12u64),
+        (CallKind::Erase, 5, 10),
+        (CallKind::Barrier, 8, 20),
+    ];
+    for (kind, before, all) in kinds {
+        for number in before..all {
+            let told = is_told(rt.alloc(), kind, number.saturating_add(1))?;
+            assert!(rt; told, "{kind:?} {number}");
+        }
+    }
+    Ok(())
+}
