@@ -20,10 +20,10 @@ use Rattle.pst_model.specs.Table.{Store, Table}
 use Rattle.pst_model.proofs.Counted.{count_behind-more, replies_from-append}
 use Rattle.pst_model.proofs.Runs.{lines_of-append}
 use Rattle.handler.specs.Asked.{content_asked, reports_in}
-use Rattle.handler.specs.Content.{HoldsReport}
-use Rattle.handler.specs.Counting.{IsCountOf, and_then, is_forwarded, is_retrieved}
+use Rattle.report_lines.specs.Content.{HoldsReport}
+use Rattle.report_lines.specs.Counting.{IsCountOf, and_then, is_forwarded, is_retrieved}
 use Rattle.handler.specs.declared.carrying_out.Outcome.{Outcome}
-use Rattle.handler.specs.declared.sent.Sent.{Sent}
+use Rattle.report_lines.specs.declared.sent.Sent.{Sent}
 
 -- some, and others behind them
 pub replied-append : (number moment : ℕ) (table : Table) (xs ys : List Report) → table.reports < 16384
@@ -48,17 +48,6 @@ pub content_asked-counted : (asked : Option Items) (table : Table) (n : ℕ) →
 content_asked-counted (Some items) table n = content_report-counted (listed items) table n
 content_asked-counted None table n = refl
 
--- lines that were counted, and others behind them
-pub counted_on : (xs ys : List Output) (first second : Sent) → IsCountOf xs first → IsCountOf ys second → IsCountOf (xs ++ ys) (and_then first second)
-counted_on xs ys first second one two = record {
-  forwarded = omega (arith, one.forwarded, two.forwarded, sum_by-append (λ (output : Output). if is_forwarded output.kind then 1 else 0) xs ys);
-  replies = omega (arith, one.replies, two.replies, sum_by-append (λ (output : Output). if is_reply output.kind then 1 else 0) xs ys);
-  retrieved = omega (arith, one.retrieved, two.retrieved, sum_by-append (λ (output : Output). if is_retrieved output.kind then 1 else 0) xs ys);
-  octets =
-      let lines : length (lines_of (xs ++ ys)) ≡ length (lines_of xs) + length (lines_of ys) = ap length (lines_of-append xs ys) ∙ length-append (lines_of xs) (lines_of ys) in
-      omega (arith, one.octets, two.octets, lines);
-}
-
 -- the one report on these instructions that a buffer holds, as an output
 pub reply-held : (number moment count : ℕ) (table : Table) (asked : Option Items) (items : Items) (out : List ℕ) (length : ℕ) → asked ≡ Some items → count ≡ table.reports
     → HoldsReport (content_report (listed items) table) (record { count = count; moment = moment }) out length
@@ -67,16 +56,6 @@ reply-held number moment count table asked items out length is counted held =
     ap (λ (packet : List ℕ). record { command = number; kind = Reply; channel = 0; packet = packet } ∷ []) held.written
     ∙ ap (λ (n : ℕ). reply number moment n held.report ∷ []) counted
     ∙ ap (replies_from number moment table.reports) (sym held.only ∙ sym (ap (λ (a : Option Items). content_asked a table) is))
-
--- a line alone, of a report
-pub counted_one : (number : ℕ) (packet : List ℕ) (octets : ℕ) (sent : Sent) → octets ≡ length (output_line 0 packet) → sent.forwarded ≡ 0 → sent.retrieved ≡ 0
-    → IsCountOf (record { command = number; kind = Reply; channel = 0; packet = packet } ∷ []) (record sent { replies = 1; octets = octets })
-counted_one number packet octets sent line none neither = record {
-  forwarded = none;
-  replies = refl;
-  retrieved = neither;
-  octets = omega (arith, line, length-append (output_line 0 packet) []);
-}
 
 -- What answers a request goes out in three parts: the verdicts in front, the content report, and completion.
 in_parts : (number moment : ℕ) (first mid next : Table) (before after : List Report) (asked : Option Items) → first.reports < 16384

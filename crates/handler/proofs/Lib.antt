@@ -4,5 +4,3 @@ pub mod Arrivals
 pub mod Carrying
 pub mod Contents
 pub mod Grants
-pub mod Replying
-pub mod Sendings

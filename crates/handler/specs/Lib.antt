@@ -1,11 +1,8 @@
 pub mod Asked
-pub mod Content
-pub mod Counting
+pub mod Carrying
 pub mod Faults
 pub mod Forwarding
 pub mod Handler
 pub mod Kept
 pub mod Refusals
-pub mod Sending
 pub mod Table
-pub mod Written

@@ -10,8 +10,8 @@ ghost use Rattle.handler.specs.Table.{table_of};
 
 use crate::judging::judge;
 use crate::table::MemTable;
-use crate::verdicts::{Failures, Verdicts, completed, verdicts_before};
 use pus_request::Items;
+use report_lines::{Failures, Verdicts, completed, verdicts_before};
 use space_packet::PacketView;
 
 /// What answers a request, in its order.

@@ -2,51 +2,30 @@
 ghost use Rattle.std.specs.Prelude.{◌≡◌, ◌≤◌, ◌<◌, ◌^◌, [], All, length, IfNone, IfSome};
 ghost use Rattle.std.specs.List.{flat_map};
 ghost use Rattle.pus_request.specs.View.{listed};
-ghost use Rattle.pst_model.specs.Contents.{content_report, summary_asked, summary_by};
+ghost use Rattle.pst_model.specs.Contents.{content_report, summary_asked};
 ghost use Rattle.pst_model.specs.Reports.{HasTimes};
-ghost use Rattle.handler.specs.Content.{HoldsReport};
+ghost use Rattle.report_lines.specs.Content.{HoldsReport};
 ghost use Rattle.handler.specs.Table.{table_of};
 
 use crate::table::MemTable;
-use arrayvec::ArrayVec;
 use control_defs::Instruction;
-use pus_report::{
-    Head, SummaryRow, write_configuration, write_forward, write_status, write_summary, write_types,
-};
+use pus_report::{Head, write_configuration, write_forward, write_status, write_types};
 use pus_request::Items;
-
-/// The rows of a summary, one for each instruction at most.
-type Rows = ArrayVec<SummaryRow, 32>;
+use report_lines::{SummaryRows, write_summaries};
 
 // The summaries that are asked for of stores that stand.
-fn summaries(table: &MemTable, items: &Items<'_>) -> Rows
+fn summaries(table: &MemTable, items: &Items<'_>) -> SummaryRows
     ensures rows { result.items ≡ flat_map (summary_asked (table_of table.now).stores)
         (listed items.now) }
     ensures times { All HasTimes result.items }
 {
-    let mut rows = Rows::new();
+    let mut rows = SummaryRows::new();
     for at in 0..items.len() {
         if let Some(row) = table.summary_asked(items.get(at)) {
             rows.push(row);
         }
     }
     rows
-}
-
-// Writes the summary report, where there is a row.
-fn write_rows(rows: &[SummaryRow], head: Head, out: &mut [u8]) -> Option<u32>
-    requires count { head.count < 16384 }
-    requires moment { head.moment < 2 ^ 48 }
-    requires room { 1024 ≤ length out.old }
-    requires few { length rows.now ≤ 32 }
-    requires timed { All HasTimes rows.now }
-    ensures none { IfNone result (summary_by rows.now ≡ []) }
-    ensures some { IfSome result (HoldsReport (summary_by rows.now) head out.new) }
-{
-    if rows.is_empty() {
-        return None;
-    }
-    Some(write_summary(head, rows, out))
 }
 
 /// Writes the content report on instructions of one kind, where there is one, into the front of
@@ -67,7 +46,7 @@ pub fn write_content(table: &MemTable, items: &Items<'_>, head: Head, out: &mut 
             }
             Some(write_types(head, store, table.types(), out))
         }
-        Instruction::Summary(_) => write_rows(summaries(table, items).as_slice(), head, out),
+        Instruction::Summary(_) => write_summaries(summaries(table, items).as_slice(), head, out),
         Instruction::Status => Some(write_status(head, &[table.status()], out)),
         Instruction::Configuration => Some(write_configuration(
             head,

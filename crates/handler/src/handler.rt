@@ -2,20 +2,19 @@
 ghost use Rattle.std.specs.Prelude.{◌≡◌, ◌<◌, ◌^◌, ℕ, [], Err, true, false, is_ok, IsOk, IsTrue, IfOk, OnOk, OnErr};
 ghost use Rattle.space_packet.specs.View.{octets_of};
 ghost use Rattle.pst_model.specs.Rules.{grant};
-ghost use Rattle.handler.specs.Counting.{IsCountOf};
+ghost use Rattle.report_lines.specs.Counting.{IsCountOf};
 ghost use Rattle.handler.specs.Forwarding.{forwarded};
-ghost use Rattle.handler.specs.Sending.{BreaksIn, SendsLines};
+ghost use Rattle.report_lines.specs.Sending.{BreaksIn, SendsLines};
 ghost use Rattle.handler.specs.Table.{table_of};
 
 use crate::boot_store::CHANNEL;
-use crate::buffers::Buffers;
 use crate::carrying_out::carry_out_request;
 use crate::fault::HandlerFault;
 use crate::replies::send_answer;
-use crate::sent::Sent;
 use crate::table::MemTable;
 use board::{Board, Failed};
 use pus_header::identifier_of;
+use report_lines::{Buffers, Sent};
 use space_packet::PacketView;
 use std::alloc::{AllocError, Global};
 
@@ -77,7 +76,7 @@ impl Handler {
     ghost use Rattle.pst_model.specs.Table.{after_format};
     ghost use Rattle.handler.specs.Faults.{OnLink, OnNoMemory};
     ghost use Rattle.handler.specs.Handler.{is_open, table_in};
-    ghost use Rattle.handler.specs.Sending.{CarriesOut};
+    ghost use Rattle.handler.specs.Carrying.{CarriesOut};
     ghost use Rattle.handler.specs.Table.{is_stored};
 
     /// A handler of the table after a format, which is open.

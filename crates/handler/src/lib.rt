@@ -3,7 +3,6 @@
 #![tactic(auto)]
 
 mod boot_store;
-mod buffers;
 mod carrying_out;
 mod content;
 mod fault;
@@ -12,14 +11,11 @@ mod judging;
 mod packets;
 mod refusal;
 mod replies;
-mod sending;
-mod sent;
 mod table;
-mod verdicts;
 
 pub use fault::HandlerFault;
 pub use handler::Handler;
-pub use sent::Sent;
+pub use report_lines::Sent;
 
 #[cfg(test)]
 mod tests;

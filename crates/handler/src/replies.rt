@@ -3,21 +3,24 @@ ghost use Rattle.std.specs.Prelude.{◌≡◌, ◌≤◌, ◌<◌, ◌^◌, ℕ,
 ghost use Rattle.pst_model.specs.Replies.{replied};
 ghost use Rattle.pst_model.specs.Reports.{verdict_report};
 ghost use Rattle.handler.specs.Asked.{content_asked, reports_in};
-ghost use Rattle.handler.specs.Counting.{IsCountOf, IsSmall};
-ghost use Rattle.handler.specs.Sending.{BreaksIn, SendsLines};
+ghost use Rattle.report_lines.specs.Counting.{IsCountOf, IsSmall};
+ghost use Rattle.report_lines.specs.Sending.{BreaksIn, SendsLines};
 ghost use Rattle.handler.specs.Table.{table_of};
 
-use crate::buffers::Buffers;
 use crate::carrying_out::Outcome;
-use crate::sent::Sent;
+use crate::content::write_content;
 use crate::table::MemTable;
 use board::{Board, Failed};
 use pus_report::{Head, Verdict};
 use pus_request::Items;
+use report_lines::{Buffers, LONGEST_REPORT, Sent, send_verdicts};
+
+/// The channel of reports.
+const REPORTS: u8 = 0;
 
 /// Sends the reports of at most 34 verdicts on the request with this identifier, and counts them. The moment
 /// is below 2^48.
-pub fn send_verdicts<B: Board>(
+pub fn report_verdicts<B: Board>(
     board: &mut B,
     table: &mut MemTable,
     buffers: &mut Buffers,
@@ -35,17 +38,9 @@ pub fn send_verdicts<B: Board>(
     ensures breaks { OnErr result ((number : ℕ) → BreaksIn B.means board.old board.new
         (replied number moment (table_of table.old) (map (verdict_report request) verdicts.now)).outputs) }
 {
-    let mut sent = Sent::default();
-    for verdict in verdicts {
-        let head = Head {
-            count: table.count(),
-            moment,
-        };
-        let octets = buffers.send_verdict(board, head, *verdict, request)?;
-        table.report();
-        sent.replies += 1;
-        sent.octets += u64::from(octets);
-    }
+    let count = table.count();
+    let sent = send_verdicts(board, buffers, count, moment, request, verdicts)?;
+    table.report(verdicts.len() as u16);
     Ok(sent)
 }
 
@@ -73,11 +68,12 @@ pub fn send_content<B: Board>(
         count: table.count(),
         moment,
     };
-    let Some(length) = buffers.write_content(table, &items, head) else {
+    let mut report = [0; LONGEST_REPORT];
+    let Some(length) = write_content(table, &items, head, &mut report) else {
         return Ok(Sent::default());
     };
-    let octets = buffers.send_report(board, length)?;
-    table.report();
+    let octets = buffers.send(board, REPORTS, &report[..length as usize])?;
+    table.report(1);
     Ok(Sent {
         replies: 1,
         octets: u64::from(octets),
@@ -102,7 +98,7 @@ pub fn send_answer<B: Board>(
     ensures breaks { OnErr result ((number : ℕ) → BreaksIn B.means board.old board.new
         (replied number moment (table_of table.old) (reports_in request outcome.now (table_of table.old))).outputs) }
 {
-    let first = send_verdicts(
+    let first = report_verdicts(
         board,
         table,
         buffers,
@@ -111,7 +107,7 @@ pub fn send_answer<B: Board>(
         outcome.before.as_slice(),
     )?;
     let content = send_content(board, table, buffers, moment, outcome.asked)?;
-    let last = send_verdicts(
+    let last = report_verdicts(
         board,
         table,
         buffers,

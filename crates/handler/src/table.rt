@@ -229,11 +229,12 @@ impl MemTable {
         self.reports
     }
 
-    /// Counts a report that was made.
-    pub fn report(&mut self)
+    /// Counts so many reports that were made, at most 34.
+    pub fn report(&mut self, reports: u16)
+        requires { reports ≤ 34 }
         ensures { let table = table_of self.old in
-            table_of self.new ≡ record table { reports = count_behind table.reports 1 } }
+            table_of self.new ≡ record table { reports = count_behind table.reports reports } }
     {
-        self.reports = (self.reports + 1) % COUNTS;
+        self.reports = (self.reports + reports) % COUNTS;
     }
 }

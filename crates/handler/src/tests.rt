@@ -125,10 +125,10 @@ fn reports_are_counted(rt: HostRuntime) -> Result<(), Fail> {
     let mut table = MemTable::new(rt.alloc())?;
     assert_eq!(rt; table.count(), 0);
     for _ in 0u16..16383 {
-        table.report();
+        table.report(1);
     }
     assert_eq!(rt; table.count(), 16383);
-    table.report();
+    table.report(1);
     assert_eq!(rt; table.count(), 0);
     Ok(())
 }

@@ -14,7 +14,7 @@ use Rattle.station.specs.declared.ending.Ending.TheVariants.{Done, BadLine, Link
 use Rattle.station.specs.Session.{Carried, Ended, IsStoredArrival}
 use Rattle.pst_model.specs.Run.{step}
 use Rattle.pst_model.specs.Table.{Table}
-use Rattle.handler.specs.Sending.{BreaksIn, SendsLines}
+use Rattle.report_lines.specs.Sending.{BreaksIn, SendsLines}
 use Rattle.station.proofs.Turns.{Steps, ended_bad, ended_done, ended_link, ended_memory, ended_source, goes_further}
 
 -- the answer of a reader, and what it left

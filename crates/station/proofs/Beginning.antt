@@ -3,7 +3,7 @@ use Rattle.std.proofs.Common.{◌≡◌, ℕ, Bool, ◌++◌, ◌-◌, List, [],
 use Rattle.std.proofs.lemmas.List.{append-nil}
 use Rattle.board.specs.Meaning.{BoardMeaning, SourceMeaning}
 use Rattle.board.proofs.Runs.{gains_none, started}
-use Rattle.handler.specs.Sending.{SendsLines}
+use Rattle.report_lines.specs.Sending.{SendsLines}
 use Rattle.pst_model.specs.Command.{Command}
 use Rattle.station.specs.declared.ending.Ending.TheVariants.{NoMemory}
 use Rattle.station.specs.Session.{Ended, Keeps, MayBeSent, Unbegun, lines_for, taken_of}

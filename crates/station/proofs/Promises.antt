@@ -12,7 +12,7 @@ use Rattle.board.proofs.Runs.{gains_none, goes_on, links_too, weaker}
 use Rattle.board.proofs.Stops as stops
 use Rattle.board.proofs.Touching.{elsewhere_on, image_since, kept_elsewhere, same_elsewhere}
 use Rattle.board.proofs.Works.{tells_too}
-use Rattle.handler.specs.Sending.{BreaksIn, SendsLines}
+use Rattle.report_lines.specs.Sending.{BreaksIn, SendsLines}
 use Rattle.meta_journal.specs.Directories.{directory_of}
 use Rattle.meta_journal.specs.Formats.{IsFormatted}
 use Rattle.meta_journal.specs.Halves.{format_pages}

@@ -15,8 +15,8 @@ use Rattle.session_text.specs.Turns.{Asks, MovesOn, Reads, Turn, Said, Ended as 
 use Rattle.session_text.specs.Progress.{HasRead}
 use Rattle.pst_model.specs.Text.{bad_read, commands_of, commands_read, first_bad}
 use Rattle.session_text.proofs.Progressing.{has_read_end, has_read_none, has_read_taken, has_read_unended, has_read_whole, taken_is}
-use Rattle.handler.specs.Sending.{BreaksIn, SendsLines}
-use Rattle.handler.proofs.Sendings.{breaks_early, breaks_on, lines_on}
+use Rattle.report_lines.specs.Sending.{BreaksIn, SendsLines}
+use Rattle.report_lines.proofs.Sendings.{breaks_early, breaks_on, lines_on}
 use Rattle.station.specs.declared.ending.Ending.{Ending}
 use Rattle.station.specs.declared.ending.Ending.TheVariants.{Done, BadWords, BadLine, FlashFault, LinkFault, SourceFault, NoMemory}
 use Rattle.pst_model.specs.Run.{lines_of, step}

@@ -4,7 +4,7 @@ use Rattle.board.specs.Counts.{Rose, Sends}
 use Rattle.board.specs.Meaning.{BoardMeaning, SourceMeaning, TellsFlash, TellsLink}
 use Rattle.board.specs.Moments.{GainsFront, SendsOnly}
 use Rattle.board.specs.Reads.{FlashStays}
-use Rattle.handler.specs.Sending.{BreaksIn, SendsLines}
+use Rattle.report_lines.specs.Sending.{BreaksIn, SendsLines}
 use Rattle.handler.specs.Table.{is_stored}
 use Rattle.pst_model.specs.Command.{Command, Arrival, Grant, Idle, Request}
 use Rattle.pst_model.specs.Rules.{Output}

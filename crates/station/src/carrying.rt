@@ -9,7 +9,8 @@ ghost use Rattle.session_text.specs.Lending.{reader_of};
 ghost use Rattle.session_text.specs.Shown.{command_of, moment_of};
 ghost use Rattle.handler.specs.Faults.{OnLink, OnNoMemory};
 ghost use Rattle.handler.specs.Handler.{is_open, table_in};
-ghost use Rattle.handler.specs.Sending.{BreaksIn, CarriesOut, SendsLines};
+ghost use Rattle.handler.specs.Carrying.{CarriesOut};
+ghost use Rattle.report_lines.specs.Sending.{BreaksIn, SendsLines};
 ghost use Rattle.station.specs.Session.{Carried, Ended, EndsAsTold, EndsReading, EndsSending, IsStart, IsStoredArrival, Keeps, MayBeSent, read_of, taken_of};
 ghost use Rattle.station.specs.Words.{AreFresh, texts_of};
 

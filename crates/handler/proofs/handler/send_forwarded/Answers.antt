@@ -2,7 +2,7 @@ use Rattle.std.proofs.Common.{ℕ, List, subst}
 use Rattle.session_text.proofs.Buffers.{on_err}
 use Rattle.pst_model.specs.Rules.{Forwarded}
 use Rattle.handler.specs.Forwarding.{forwarded}
-use Rattle.handler.specs.Sending.{BreaksIn, SendsLines}
+use Rattle.report_lines.specs.Sending.{BreaksIn, SendsLines}
 use Rattle.handler.proofs.handler.send_forwarded.Goals as goal
 
 pub returns-in_err-octets-clause-breaks : goal.returns-in_err-octets-clause-breaks

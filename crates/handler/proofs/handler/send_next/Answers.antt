@@ -1,8 +1,8 @@
 use Rattle.std.proofs.Common.{ℕ, List, sym, subst}
 use Rattle.pst_model.specs.Rules.{Output, Retrieved}
 use Rattle.session_text.proofs.Buffers.{on_err}
-use Rattle.handler.specs.Sending.{BreaksIn, SendsLines}
-use Rattle.handler.proofs.Sendings.{lines_none}
+use Rattle.report_lines.specs.Sending.{BreaksIn, SendsLines}
+use Rattle.report_lines.proofs.Sendings.{lines_none}
 use Rattle.handler.proofs.handler.send_next.Goals as goal
 
 pub returns-in_default-clause-sends : goal.returns-in_default-clause-sends

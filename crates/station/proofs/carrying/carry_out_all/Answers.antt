@@ -1,5 +1,5 @@
 use Rattle.std.proofs.Common.{rules}
-use Rattle.handler.proofs.Sendings.{lines_none}
+use Rattle.report_lines.proofs.Sendings.{lines_none}
 use Rattle.station.proofs.Turns.{carried_none}
 use Rattle.station.proofs.carrying.carry_out_all.Goals as goal
 

@@ -1,4 +1,4 @@
-use Rattle.handler.proofs.Sendings.{lines_none}
+use Rattle.report_lines.proofs.Sendings.{lines_none}
 use Rattle.station.specs.Session.{Ended}
 use Rattle.station.specs.declared.ending.Ending.TheVariants.{NoMemory}
 use Rattle.station.proofs.Beginning.{ended_unbegun}

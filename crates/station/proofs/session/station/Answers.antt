@@ -2,8 +2,8 @@ use Rattle.std.proofs.Common.{ℕ, [], ap, refl, subst, arith}
 use Rattle.board.specs.Device.{Device}
 use Rattle.board.proofs.Runs.{started}
 use Rattle.board.proofs.Touching.{touches_most, touches_none}
-use Rattle.handler.specs.Sending.{BreaksIn, SendsLines}
-use Rattle.handler.proofs.Sendings.{lines_none}
+use Rattle.report_lines.specs.Sending.{BreaksIn, SendsLines}
+use Rattle.report_lines.proofs.Sendings.{lines_none}
 use Rattle.meta_journal.specs.Halves.{format_pages}
 use Rattle.station.specs.Session.{EndsReading, EndsSending, read_of}
 use Rattle.station.proofs.Beginning.{keeps_none, may_be_none}

@@ -3,10 +3,10 @@ use Rattle.space_packet.specs.Charge.{charge_of}
 use Rattle.space_packet.specs.View.{octets_of}
 use Rattle.space_packet.specs.declared.view.PacketView.{PacketView}
 use Rattle.pst_model.specs.Rules.{Output}
-use Rattle.handler.specs.Counting.{IsCountOf}
-use Rattle.handler.specs.Sending.{BreaksIn, SendsLines}
+use Rattle.report_lines.specs.Counting.{IsCountOf}
+use Rattle.report_lines.specs.Sending.{BreaksIn, SendsLines}
 use Rattle.handler.proofs.Arrivals.{kept_back, sent_on}
-use Rattle.handler.proofs.Sendings.{lines_none}
+use Rattle.report_lines.proofs.Sendings.{lines_none}
 use Rattle.handler.proofs.handler.Handler.arrival.Goals as goal
 
 short_packet : (packet : PacketView) → charge_of (length (octets_of packet)) ≤ 64

@@ -1,5 +1,5 @@
 use Rattle.std.proofs.Common.{rules}
-use Rattle.handler.proofs.Sendings.{lines_none}
+use Rattle.report_lines.proofs.Sendings.{lines_none}
 use Rattle.handler.proofs.handler.Handler.idle.Goals as goal
 
 pub returns-clause-done : goal.returns-clause-done

@@ -1,8 +1,8 @@
 use Rattle.std.proofs.Common.{ℕ, ◌∙◌, ap, subst}
 use Rattle.space_packet.specs.View.{octets_of}
 use Rattle.pst_model.specs.Rules.{Step}
-use Rattle.handler.specs.Counting.{IsCountOf}
-use Rattle.handler.specs.Sending.{BreaksIn, SendsLines}
+use Rattle.report_lines.specs.Counting.{IsCountOf}
+use Rattle.report_lines.specs.Sending.{BreaksIn, SendsLines}
 use Rattle.handler.specs.Table.{table_of}
 use Rattle.handler.proofs.Answered.{answered}
 use Rattle.handler.proofs.handler.Handler.request.Goals as goal
