@@ -1,6 +1,6 @@
 -- Blocks of a pool while a packet is put into stores, and behind it.
-use Rattle.std.specs.Prelude.{◌≡◌, ◌<◌, ℕ, Bool, true, false, not, ◌&&◌, nat_le, nat_lt, set, List, map, Result, IfOk}
-use Rattle.block_pool.specs.Blocks.{Blocks, IsData, blocks_of, is_free}
+use Rattle.std.specs.Prelude.{◌≡◌, ◌<◌, ℕ, ◌+◌, ◌-◌, ◌^◌, min, Bool, true, false, not, ◌&&◌, nat_le, nat_lt, if◌then◌else◌, set, List, map, Result, IfOk, OnOk}
+use Rattle.block_pool.specs.Blocks.{Blocks, IsData, blocks_of, is_free, is_ready, wear_of}
 use Rattle.board.specs.Flash.{pages_of_block}
 use Rattle.board.specs.Meaning.{BoardMeaning}
 use Rattle.board.specs.Touches.{Touches}
@@ -16,6 +16,12 @@ pub record IsTaken (old new : Blocks) (block : ℕ) : Type 0 where
   pub free : new.free ≡ set old.free block false
   pub ready : new.ready ≡ set old.ready block false
 
+-- the erase counts of a pool, once a block that was not ready was erased
+abbrev pub wear_begun : (pool : Blocks) → (block : ℕ) → List ℕ
+wear_begun pool block =
+    if is_ready pool block then pool.wear
+    else set pool.wear block (min (wear_of pool block + 1) (2 ^ 32 - 1))
+
 -- A block is taken and begun, with one erase and one barrier at most. Only its pages are touched,
 -- also where a call failed.
 pub record BeginsBlock {B E : Type 0} (means : BoardMeaning B) (old_pool new_pool : Blocks) (old new : B)
@@ -23,6 +29,7 @@ pub record BeginsBlock {B E : Type 0} (means : BoardMeaning B) (old_pool new_poo
   pub block : ℕ
   pub taken : IsTaken old_pool new_pool block
   pub many : blocks_of new_pool ≡ blocks_of old_pool
+  pub wear : OnOk result (new_pool.wear ≡ wear_begun old_pool block)
   pub tail : IfOk result (λ tail. tail ≡ record { block = block; used = 0 })
   pub touches : Touches means (pages_of_block block) 0 1 1 old new
 

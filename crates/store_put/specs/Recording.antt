@@ -10,7 +10,7 @@ use Rattle.space_packet.specs.View.{octets_of}
 use Rattle.time_index.specs.declared.entry.Entry.{Entry}
 use Rattle.put_laws.specs.Indexes.{entry_of}
 use Rattle.put_laws.specs.Puts.{SpellsAt, need_of}
-use Rattle.store_put.specs.Pools.{IsTaken}
+use Rattle.store_put.specs.Pools.{IsTaken, wear_begun}
 use Rattle.store_put.specs.declared.recording.Arrival.{Arrival}
 
 -- a packet that arrives as the model has it
@@ -24,6 +24,8 @@ pub record Begins {B E : Type 0} (means : BoardMeaning B) (old_pool new_pool : B
   pub block : ℕ
   pub taken : IsTaken old_pool new_pool block
   pub many : blocks_of new_pool ≡ blocks_of old_pool
+  -- the block was erased if it was not ready, which is counted
+  pub wear : OnOk result (new_pool.wear ≡ wear_begun old_pool block)
   pub entry : IfOk result (λ entry. entry ≡ entry_of stored block 0)
   pub spelled : OnOk result (TellsFlash means old
       → SpellsAt (means.flash new).content block 0 number stored)

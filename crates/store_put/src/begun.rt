@@ -10,8 +10,8 @@ use block_pool::Pool;
 use board::{Board, Failed};
 use chain_log::Tail;
 
-// Takes a free block, which is not ready from now on, and answers whether it was.
-fn take_block(pool: &mut Pool) -> (u32, bool)
+/// Takes a free block, which is not ready from now on, and answers whether it was.
+pub fn take_block(pool: &mut Pool) -> (u32, bool)
     requires { 0 < free_count pool.old }
     ensures taken { IsTaken pool.old pool.new result.0 }
     ensures wear { pool.new.wear ≡ pool.old.wear }

@@ -15,6 +15,7 @@ mod settling;
 mod staying;
 mod walking;
 
+pub use begun::take_block;
 pub use counting::free_blocks_are_counted;
 pub use entry_text::EntryText;
 pub use making::{count_record, make_change, tell_refusal};

@@ -43,6 +43,10 @@ fn free_unnamed(pool: &mut Pool, block: u32, is_named: bool)
     requires unnamed { is_free pool.old block ≡ true → is_named ≡ false }
     ensures free { pool.new.free ≡ set pool.old.free block (not is_named) }
     ensures ready { (other : ℕ) → is_ready pool.new other ≡ true → is_ready pool.old other ≡ true }
+    ensures given { (other : ℕ) → is_free pool.new other ≡ true → is_ready pool.new other ≡ true
+        → is_free pool.old other ≡ true }
+    ensures still_ready { (other : ℕ) → is_free pool.old other ≡ true
+        → is_ready pool.new other ≡ is_ready pool.old other }
     ensures wear { pool.new.wear ≡ pool.old.wear }
 {
     let is_free = pool.is_free(block);
@@ -52,7 +56,8 @@ fn free_unnamed(pool: &mut Pool, block: u32, is_named: bool)
 }
 
 /// Gives back each data block that is not free and that no store names. Before, no free block is
-/// named by a store; behind it a block is free exactly if it is a data block that no store names.
+/// named by a store; behind it a block is free exactly if it is a data block that no store names, and
+/// one that was free before is as ready as it was.
 /// The device has as many blocks as the pool, and each block of a store is one of them.
 pub fn settle(directory: &Directory, pool: &mut Pool)
     requires within { All (IsBelow (blocks_of pool.old)) (all_links directory.now.stores) }
@@ -61,6 +66,11 @@ pub fn settle(directory: &Directory, pool: &mut Pool)
     ensures free { (block : ℕ) → is_free pool.new block
         ≡ is_unlinked (blocks_of pool.old) directory.now.stores block }
     ensures ready { (block : ℕ) → is_ready pool.new block ≡ true → is_ready pool.old block ≡ true }
+    // a block that is given back is not ready
+    ensures given { (block : ℕ) → is_free pool.new block ≡ true → is_ready pool.new block ≡ true
+        → is_free pool.old block ≡ true }
+    ensures still_ready { (block : ℕ) → is_free pool.old block ≡ true
+        → is_ready pool.new block ≡ is_ready pool.old block }
     ensures wear { pool.new.wear ≡ pool.old.wear }
 {
     let blocks = pool.wear().len() as u32;

@@ -12,12 +12,17 @@ use Rattle.time_index.specs.declared.entry.Entry.{Entry}
 use Rattle.put_laws.specs.Indexes.{entry_of}
 use Rattle.put_laws.specs.Puts.{SpellsAt, need_of}
 use Rattle.store_load.specs.Extents.{end_of}
+use Rattle.store_put.specs.Pools.{wear_begun}
 use Rattle.store_put.specs.Recording.{stored_by}
 use Rattle.store_put.proofs.recording.begin_record.Goals as goal
 
 ok_gives : {A E : Type 0} (r : Result A E) (P Q : Type 0) → OnOk r P → (P → Q) → OnOk r Q
 ok_gives (Ok x) P Q p f = f p
 ok_gives (Err e) P Q p f = tt
+
+any_ok : {A E : Type 0} (r : Result A E) (P : Type 0) → P → OnOk r P
+any_ok (Ok x) P p = p
+any_ok (Err e) P p = tt
 
 inside : (f n p : ℕ) → n ≤ 256 → pages_from f 256 p ≡ false → pages_from (f + 0) n p ≡ false
 inside f n p few out = grind (arith, nat_tests)
@@ -39,6 +44,7 @@ returns-clause-begins g c =
       block = block;
       taken = begun.taken;
       many = begun.many;
+      wear = any_ok c.append_to.result (c.begin_block.new.pool.wear ≡ wear_begun c.args.pool.now block) begun.wear;
       entry = subst (λ (t : Filling). IfOk c.append_to.result (λ (e : Entry). e ≡ entry_of stored t.block t.used)) is c.append_to.ensures.entry;
       spelled =
           ok_gives c.append_to.result (TellsFlash means mid → SpellsAt (means.flash new).content c.in_ok-tail.tail.block c.in_ok-tail.tail.used number stored)
