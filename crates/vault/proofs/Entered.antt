@@ -4,7 +4,7 @@ use Rattle.std.specs.Prelude.{⊤, OnErr, OnOk, nat_le, nat_lt, ◌&&◌}
 use Rattle.std.specs.List.{list_all}
 use Rattle.std.proofs.lemmas.Bool.{cases_lt, false≢true}
 use Rattle.std.proofs.lemmas.Option.{none-some, same_Some}
-use Rattle.block_pool.specs.Blocks.{IsPool, is_ready}
+use Rattle.block_pool.specs.Blocks.{IsPool, is_free, is_ready}
 use Rattle.board.specs.Flash.{Flash, IsContent, IsImage, loosened}
 use Rattle.board.specs.Meaning.{BoardMeaning}
 use Rattle.board.specs.Moments.{LeavesOnly}
@@ -152,10 +152,10 @@ module _ (vault : InMemory) (flash : Flash) (table : Table) (sound : IsSound vau
         (answered (store_of flash.content e.now) e.stores after.stores loads.stores))
         stands.stores
 
-    ready_clean : (block : ℕ) → is_ready vault.pool block ≡ true → IsCleanFrom new block 0
-    ready_clean block marked = elim (cases_lt block 7) [
+    ready_clean : (block : ℕ) → is_free vault.pool block ≡ true → is_ready vault.pool block ≡ true → IsCleanFrom new block 0
+    ready_clean block free marked = elim (cases_lt block 7) [
       | inl low ↦ absurd (false≢true (sym (is_pool.ready_data block low) ∙ marked))
-      | inr high ↦ clean_from vault.blocks flash new kept block 0 high (stands.ready block marked)
+      | inr high ↦ clean_from vault.blocks flash new kept block 0 high (stands.ready block free marked)
     ]
 
     firm_after : (p : ℕ) → in_records new.content p e ≡ true → new.loose p ≡ false

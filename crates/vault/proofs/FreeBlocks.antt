@@ -36,7 +36,7 @@ new_parts block (link ∷ front) back h =
     both true b h k = k
     both false b h k = absurd (false≢true h)
 
-new_each : (block : ℕ) (stores : List Listed) → is_new block (map block_of (all_links stores)) ≡ true
+pub new_each : (block : ℕ) (stores : List Listed) → is_new block (map block_of (all_links stores)) ≡ true
     → EachIs (λ (s : Listed). is_new block (map block_of s.links) ≡ true) stores
 new_each block [] h = tt
 new_each block (s ∷ stores) h =
@@ -83,7 +83,7 @@ module _ (blocks : ℕ) (image : ℕ → List ℕ) (content : IsContent blocks i
   others_of row [] own new = tt
   others_of row (link ∷ links) own new = others_from (end_of row) link links own new
 
-  off_store : (s : Listed) → list_all (is_data blocks) s.links ≡ true → is_new block (map block_of s.links) ≡ true → in_store image p s.row s.links ≡ true → ⊥
+  pub off_store : (s : Listed) → list_all (is_data blocks) s.links ≡ true → is_new block (map block_of s.links) ≡ true → in_store image p s.row s.links ≡ true → ⊥
   off_store s own new =
       any_of (in_extent image p) ⊥ (extents_of s.row s.links)
       (each_weaker IsOther (λ e. in_extent image p e ≡ true → ⊥) off_extent (extents_of s.row s.links) (others_of s.row s.links own new))

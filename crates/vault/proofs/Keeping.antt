@@ -16,7 +16,7 @@ all_begin now [] (i ∷ indexes) lasts each = absurd each
 all_begin now (s ∷ stores) [] lasts each = absurd each
 all_begin now (s ∷ stores) (i ∷ indexes) [] each = absurd each
 all_begin now (s ∷ stores) (i ∷ indexes) (l ∷ lasts) each =
-    All-cons BeginsWell s stores each.0.begins (all_begin now stores indexes lasts each.1)
+    All-cons BeginsWell s stores each.0.in_place.in_range.begins (all_begin now stores indexes lasts each.1)
 
 pub all_together : (now : ℕ) (stores : List Listed) (indexes : List TimeIndex) (lasts : List LastBlock) → EachStore (IsSoundStore now) stores indexes lasts
     → AreAllTogether stores indexes

@@ -17,7 +17,7 @@ use Rattle.store_load.specs.Each.{each}
 use Rattle.store_load.specs.Held.{IsHeld}
 use Rattle.store_load.specs.Keeping.{IsInDevice}
 use Rattle.store_load.specs.Loaded.{index_of, used_in}
-use Rattle.store_load.proofs.Held.{in_range}
+use Rattle.store_put.proofs.Held.{held_in_place}
 use Rattle.store_load.proofs.Indexed.{no_index}
 use Rattle.store_load.proofs.Rows.{row_numbers}
 use Rattle.time_index.specs.TimeIndex.{TimeIndex}
@@ -57,11 +57,10 @@ loaded_store blocks now read told image s row links index used n r l listed own 
       index_is = λ yes. sym (λ i. index_of table_rule image (n i) (r i) (l i)) ∙ index_is yes;
       used_is = λ yes. used_is yes ∙ (λ i. used_in image (r i) (l i));
       stale_is = refl;
-      in_range =
-          in_range table_rule blocks now s.row s.links index used here
+      in_place =
+          held_in_place blocks now s.row s.links index used here
           (λ k default lt. record { block = own k default lt; first = (listed.fitting k default lt).1 })
-          (omega (arith, listed.links, numbers.0)) (omega arith) listed.lawful listed.fits.first;
-      begins = here.begins;
+          (omega (arith, listed.links, numbers.0)) listed.lawful listed.fits.first;
     }
 
 -- a store is loaded from a board that still is as it was
@@ -71,8 +70,7 @@ loaded_since old new before after now s index last tells same loaded = record {
   index_is = λ told. sym (ap (λ image. index_of table_rule image now s.row s.links) (same told)) ∙ loaded.index_is (tells told);
   used_is = λ told. loaded.used_is (tells told) ∙ ap (λ image. used_in image s.row s.links) (same told);
   stale_is = loaded.stale_is;
-  in_range = loaded.in_range;
-  begins = loaded.begins;
+  in_place = loaded.in_place;
 }
 
 -- how many of them it has

@@ -167,7 +167,7 @@ picked_store vault pick sound picked =
       index = index;
       has = has;
       counts = store.together.count;
-      begins = store.begins;
+      begins = store.in_place.in_range.begins;
       listed = all_at IsListed d.stores pick.at s sound.kept.stores.each there;
     }
 

@@ -62,11 +62,11 @@ place_there vault at position index entry sound is here =
     let (s, there) = some_at vault.directory.stores at (omega (arith, within, sound.as_many)) in
     let P = IsSoundStore vault.directory.now in
     let (last, is_last, store) = each_store_at P vault.directory.stores vault.indexes vault.lasts at s index sound.stores there is in
-    let placed = all_at (IsPlaced table_rule vault.directory.now) index.entries position entry store.in_range.placed here in
+    let placed = all_at (IsPlaced table_rule vault.directory.now) index.entries position entry store.in_place.in_range.placed here in
     record {
       block =
           block_in vault.blocks s.row.first s.links index.entries position entry
-          (own_at vault.blocks vault.directory.stores at s sound.share there) store.in_range.blocks here;
+          (own_at vault.blocks vault.directory.stores at s sound.share there) store.in_place.in_range.blocks here;
       within = placed.within;
       shortest = placed.shortest;
       longest = placed.longest;

@@ -25,7 +25,7 @@ use Rattle.vault.specs.Requests.{IsPrepared, IsViewWith, OfShown}
 use Rattle.vault.specs.Standing.{StandsFor}
 
 -- what is shown of a vault
-abbrev view_of_vault : InMemory → View
+abbrev pub view_of_vault : InMemory → View
 view_of_vault vault = record {
   directory = record { ref_ptr = (0, 0); now = vault.directory };
   indexes = record { ref_ptr = (0, 0); now = vault.indexes };

@@ -21,6 +21,8 @@ use Rattle.store_load.specs.declared.rule.Rule.{Rule}
 use Rattle.store_load.proofs.Eachs.{EachIs, given_then}
 use Rattle.time_index.specs.TimeIndex.{TimeIndex}
 use Rattle.vault.specs.Changing.{KeepRecords, SameRecords}
+use Rattle.store_load.specs.Extents.{end_of}
+use Rattle.store_put.specs.Ranges.{AreFewIn}
 use Rattle.vault.specs.Memory.{EachStore, IsSoundStore}
 use Rattle.vault.specs.declared.last_block.LastBlock.{LastBlock}
 
@@ -83,9 +85,6 @@ module _ (s t : Listed) (same : SameRecords s t) where
   row_is : numbered s.row t.row ≡ t.row
   row_is = λ i. record t.row { first = sym same.first i; count = sym same.count i; size = sym same.size i }
 
-  begins_same : begins_well s.row s.links ≡ true → begins_well t.row t.links ≡ true
-  begins_same begins = (λ i. begins_well (sym row_is i) (same.links i)) ∙ begins_numbered s.row t.row s.links ∙ begins
-
   pub index_same : (rule : Rule) (image : ℕ → List ℕ) (now : ℕ) → index_of rule image now t.row t.links ≡ index_of rule image now s.row s.links
   index_same rule image now =
       (λ i. index_of rule image now (sym row_is i) (same.links i)) ∙ index_numbered rule image now s.row t.row s.links
@@ -103,11 +102,15 @@ module _ (s t : Listed) (same : SameRecords s t) where
       count = sound.together.count ∙ sym same.count;
       size = sound.together.size ∙ sym same.size;
     };
-    in_range =
-        subst (λ (row : Row). IsInRange table_rule later row t.links index last.used) row_is
-        (subst (λ (links : List Link). IsInRange table_rule later (numbered s.row t.row) links index last.used) (sym same.links)
-        (range_numbered now later s.row t.row s.links index last.used le sound.in_range));
-    begins = begins_same sound.begins;
+    in_place = record {
+      in_range =
+          subst (λ (row : Row). IsInRange table_rule later row t.links index last.used) row_is
+          (subst (λ (links : List Link). IsInRange table_rule later (numbered s.row t.row) links index last.used) (sym same.links)
+          (range_numbered now later s.row t.row s.links index last.used le sound.in_place.in_range));
+      few =
+          subst (λ (row : Row). AreFewIn last.used (end_of row) t.links) row_is
+          (subst (λ (links : List Link). AreFewIn last.used (end_of (numbered s.row t.row)) links) (sym same.links) sound.in_place.few);
+    };
   }
 
   -- the index at a later time, where the other store keeps its records

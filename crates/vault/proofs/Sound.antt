@@ -23,8 +23,8 @@ sound_of told image vault least most kept stores share pool free =
       stores =
           each_gives (IsLoadedStore told image now) (IsSoundStore now)
           (λ s index last loaded.
-          let range = loaded.in_range in
-          record { together = record { first = range.first; count = range.count; size = range.size }; in_range = range; begins = loaded.begins })
+          let range = loaded.in_place.in_range in
+          record { together = record { first = range.first; count = range.count; size = range.size }; in_place = loaded.in_place })
           vault.directory.stores vault.indexes vault.lasts stores;
       as_many = as_many_indexes (IsLoadedStore told image now) vault.directory.stores vault.indexes vault.lasts stores;
       share = share;

@@ -112,7 +112,7 @@ module _ (told : Type 0) (yes : told) (blocks : ℕ) (wear : List ℕ) (d : Kept
             clean = clean_behind flash s.links last.used last.stale one.stale_is;
           })
           vault.directory.stores vault.indexes vault.lasts loaded.stores;
-      ready = λ block marked. absurd (false≢true (sym (none_ready vault.pool (length wear) block loaded.ready_is) ∙ marked));
+      ready = λ block free marked. absurd (false≢true (sym (none_ready vault.pool (length wear) block loaded.ready_is) ∙ marked));
       firm_journal = λ p low. firm p;
       firm_records = λ p there. firm p;
     },

@@ -42,7 +42,7 @@ lengths_shown [] = refl
 lengths_shown (meaning ∷ records) = ap (λ l. length meaning.packet ∷ l) (lengths_shown records)
 
 -- the packets of a store have the times and the lengths of its index
-are_indexed : (records : List Meaning) (entries : List Entry) → map seen entries ≡ map shown records → AreIndexed (map stored_of records) entries
+pub are_indexed : (records : List Meaning) (entries : List Entry) → map seen entries ≡ map shown records → AreIndexed (map stored_of records) entries
 are_indexed records entries same = record {
   times = sym (stamps_shown records) ∙ ap (map (λ (p : ℕ × ℕ). p.0)) (sym same) ∙ stamps_seen entries;
   lengths = sym (lengths_shown records) ∙ ap (map (λ (p : ℕ × ℕ). p.1)) (sym same) ∙ lengths_seen entries;

@@ -8,3 +8,8 @@ pub mod Opening
 pub mod Fetching
 pub mod Granting
 pub mod Lending
+pub mod Storing
+pub mod Putting
+pub mod Renewing
+pub mod Arriving
+pub mod Offering

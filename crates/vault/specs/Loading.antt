@@ -2,9 +2,8 @@
 use Rattle.std.specs.Prelude.{◌≡◌, ℕ, true, List, [], ◌∷◌, ◌++◌, length, Option, Some, None}
 use Rattle.image_table.specs.Table.{table_rule}
 use Rattle.store_directory.specs.Directory.{Listed}
-use Rattle.store_load.specs.InRange.{IsInRange}
-use Rattle.store_load.specs.Kept.{begins_well}
 use Rattle.store_load.specs.Loaded.{index_of, used_in}
+use Rattle.store_put.specs.Ranges.{IsInPlace}
 use Rattle.time_index.specs.TimeIndex.{TimeIndex}
 use Rattle.vault.specs.Memory.{has_link}
 use Rattle.vault.specs.declared.last_block.LastBlock.{LastBlock}
@@ -15,8 +14,7 @@ pub record IsLoadedStore (told : Type 0) (image : ℕ → List ℕ) (now : ℕ) 
   pub index_is : told → index_of table_rule image now s.row s.links ≡ Some index
   pub used_is : told → last.used ≡ used_in image s.row s.links
   pub stale_is : last.stale ≡ has_link s.links
-  pub in_range : IsInRange table_rule now s.row s.links index last.used
-  pub begins : begins_well s.row s.links ≡ true
+  pub in_place : IsInPlace now s.row s.links index last.used
 
 -- a store of which the image keeps no records
 abbrev pub IsUnlawful : (image : ℕ → List ℕ) → (now : ℕ) → Listed → Type 0

@@ -1,17 +1,15 @@
 -- What a vault keeps in memory, and what of it holds on every board.
 use Rattle.std.specs.Prelude.{◌≡◌, ◌≤◌, ⊤, ℕ, ◌+◌, ◌&&◌, nat_le, nat_lt, Bool, true, false, List, [], ◌∷◌, length, map}
 use Rattle.block_pool.specs.Blocks.{Blocks, blocks_of, is_free, is_ready}
-use Rattle.image_table.specs.Table.{table_rule}
 use Rattle.meta_journal.specs.Standing as journals
 use Rattle.record_view.specs.Records.{Meaning}
 use Rattle.record_view.specs.declared.link.Link.{Link}
 use Rattle.store_directory.specs.Directory.{IsDirectory, Listed, is_new, reserved_by}
 use Rattle.store_directory.specs.Kept.{Kept}
 use Rattle.store_load.specs.Claims.{all_links, block_of, may_share}
-use Rattle.store_load.specs.InRange.{IsInRange}
-use Rattle.store_load.specs.Kept.{begins_well}
 use Rattle.store_policy.specs.Shown.{AreTogether}
 use Rattle.store_policy.specs.declared.view.View.{View}
+use Rattle.store_put.specs.Ranges.{IsInPlace}
 use Rattle.time_index.specs.TimeIndex.{TimeIndex}
 use Rattle.vault.specs.declared.last_block.LastBlock.{LastBlock}
 
@@ -38,12 +36,10 @@ EachStore P (s ∷ stores) (index ∷ indexes) (last ∷ lasts) =
     P s index last × EachStore P stores indexes lasts
 EachStore P _ _ _ = ⊥
 
--- A store's row and its index are those of one store, and no number or place is out of range. Its first
--- block is the one with its first record.
+-- A store's row and its index are those of one store, and no number or place is out of range.
 pub record IsSoundStore (now : ℕ) (s : Listed) (index : TimeIndex) (last : LastBlock) : Type 0 where
   pub together : AreTogether s.row index
-  pub in_range : IsInRange table_rule now s.row s.links index last.used
-  pub begins : begins_well s.row s.links ≡ true
+  pub in_place : IsInPlace now s.row s.links index last.used
 
 -- a data block of a device of so many blocks that no store has
 abbrev pub is_unlinked : (blocks : ℕ) → List Listed → (block : ℕ) → Bool

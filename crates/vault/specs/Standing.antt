@@ -1,6 +1,6 @@
 -- A vault that stands for a table of a flash.
 use Rattle.std.specs.Prelude.{◌≡◌, ⊤, ℕ, true, false, List, [], ◌∷◌, Some}
-use Rattle.block_pool.specs.Blocks.{is_ready}
+use Rattle.block_pool.specs.Blocks.{is_free, is_ready}
 use Rattle.board.specs.Flash.{Flash, IsContent}
 use Rattle.chain_log.specs.Pages.{IsCleanFrom}
 use Rattle.image_table.specs.Table.{in_records, table_of, table_rule}
@@ -46,8 +46,9 @@ pub record StandsFor (vault : InMemory) (flash : Flash) (table : Table) : Type 0
   pub journal : journals.StandsFor vault.journal flash
   pub stores : EachStore (IsStoreOf flash vault.directory.now) vault.directory.stores vault.indexes
       vault.lasts
-  -- a block that is ready is clean throughout
-  pub ready : (block : ℕ) → is_ready vault.pool block ≡ true → IsCleanFrom flash block 0
+  -- a free block that is ready is clean throughout
+  pub ready : (block : ℕ) → is_free vault.pool block ≡ true → is_ready vault.pool block ≡ true
+      → IsCleanFrom flash block 0
   -- nothing that the table is read from is loose
   pub firm_journal : FirmJournal flash
   pub firm_records : (p : ℕ) → in_records flash.content p vault.directory.directory ≡ true

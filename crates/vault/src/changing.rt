@@ -109,8 +109,8 @@ pub(crate) fn add_entry<B: Board>(
     journal.commit(board, entry)
 }
 
-// Adds a change to the journal, as an entry of its own.
-fn add<B: Board>(
+/// Adds a change to the journal, as an entry of its own.
+pub(crate) fn add<B: Board>(
     board: &mut B,
     change: &Change<'_>,
     buffer: &mut [u8],
