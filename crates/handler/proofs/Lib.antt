@@ -1,6 +1,8 @@
-pub mod Answered
+pub mod InStep
+pub mod Shown
 pub mod Answering
-pub mod Arrivals
-pub mod Carrying
-pub mod Contents
 pub mod Grants
+pub mod Asked
+pub mod RefusedPuts
+pub mod Arrived
+pub mod Handlers

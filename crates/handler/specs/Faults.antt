@@ -1,14 +1,9 @@
--- What stands after each fault of a command.
-use Rattle.std.specs.Prelude.{Result, Ok, Err, ⊤}
+-- Faults of the vault as faults of the handler.
 use Rattle.handler.specs.declared.fault.HandlerFault.{HandlerFault}
-use Rattle.handler.specs.declared.fault.HandlerFault.TheVariants.{Link, NoMemory}
+use Rattle.handler.specs.declared.fault.HandlerFault.TheVariants as handler
+use Rattle.vault.specs.declared.fault.VaultFault.{VaultFault}
+use Rattle.vault.specs.declared.fault.VaultFault.TheVariants.{Flash, Mismatch}
 
-abbrev pub OnLink : {X : Type 0} → Result X HandlerFault → Type 0 → Type 0
-OnLink (Ok sent) P = ⊤
-OnLink (Err Link) P = P
-OnLink (Err NoMemory) P = ⊤
-
-abbrev pub OnNoMemory : {X : Type 0} → Result X HandlerFault → Type 0 → Type 0
-OnNoMemory (Ok sent) P = ⊤
-OnNoMemory (Err Link) P = ⊤
-OnNoMemory (Err NoMemory) P = P
+abbrev pub handler_fault_of : VaultFault → HandlerFault
+handler_fault_of Flash = handler.Flash
+handler_fault_of (Mismatch block page kept found) = handler.Mismatch block page kept found

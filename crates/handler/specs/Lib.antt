@@ -1,8 +1,5 @@
-pub mod Asked
 pub mod Carrying
+pub mod Working
 pub mod Faults
-pub mod Forwarding
-pub mod Handler
-pub mod Kept
-pub mod Refusals
-pub mod Table
+pub mod Reporting
+pub mod Arriving

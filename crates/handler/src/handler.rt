@@ -1,141 +1,138 @@
 // The handler of commands.
-ghost use Rattle.std.specs.Prelude.{◌≡◌, ◌<◌, ◌^◌, ℕ, [], Err, true, false, is_ok, IsOk, IsTrue, IfOk, OnOk, OnErr};
-ghost use Rattle.space_packet.specs.View.{octets_of};
+//
+// Order: a command is made durable first, and only then are its lines sent. So what was sent survives a
+// power loss.
+ghost use Rattle.std.specs.Prelude.{◌≡◌, ◌<◌, ◌^◌, ◌+◌, [], Ok, true, IfOk};
+ghost use Rattle.handler.specs.Carrying.{Answers, IsBoardOf};
+ghost use Rattle.handler.specs.Working.{WorksWithin};
+ghost use Rattle.pst_model.specs.Answers.{answer};
+ghost use Rattle.pst_model.specs.Arrivals.{arrive};
 ghost use Rattle.pst_model.specs.Rules.{grant};
-ghost use Rattle.report_lines.specs.Counting.{IsCountOf};
-ghost use Rattle.handler.specs.Forwarding.{forwarded};
-ghost use Rattle.report_lines.specs.Sending.{BreaksIn, SendsLines};
-ghost use Rattle.handler.specs.Table.{table_of};
+ghost use Rattle.space_packet.specs.View.{octets_of};
+ghost use Rattle.vault.specs.Changing.{if_short};
+ghost use Rattle.vault.specs.Granting.{charge_next};
 
-use crate::boot_store::CHANNEL;
-use crate::carrying_out::carry_out_request;
+use crate::arrivals::take_in;
 use crate::fault::HandlerFault;
-use crate::replies::send_answer;
-use crate::table::MemTable;
-use board::{Board, Failed};
-use pus_header::identifier_of;
+use crate::granting::send_next;
+use crate::requests::answer_request;
+use board::Board;
 use report_lines::{Buffers, Sent};
 use space_packet::PacketView;
 use std::alloc::{AllocError, Global};
+use std::marker::Model;
+use vault::Vault;
 
-/// The channel of forwarded packets.
-const FORWARDED: u8 = 0;
-
-/// The table in memory with what it takes to carry out commands on it. It is open until the link fails.
+/// The durable table with what it takes to carry out commands on it. It is open until a call answers
+/// `Flash`, `Link` or `Mismatch`.
 #[derive(Drop)]
 pub struct Handler {
-    table: MemTable,
+    vault: Vault,
     buffers: Buffers,
-    open: bool,
+    is_open: bool,
 }
 
-// Forwards a packet.
-fn send_forwarded<B: Board>(
-    board: &mut B,
-    buffers: &mut Buffers,
-    packet: PacketView<'_>,
-) -> Result<Sent, Failed>
-    ensures sends { OnOk result ((number : ℕ) → SendsLines B.means board.old board.new (forwarded number (octets_of packet.entry))) }
-    ensures counted { IfOk result (λ sent. (number : ℕ) → IsCountOf (forwarded number (octets_of packet.entry)) sent) }
-    ensures breaks { OnErr result ((number : ℕ) → BreaksIn B.means board.old board.new (forwarded number (octets_of packet.entry))) }
-{
-    let octets = buffers.send(board, FORWARDED, packet.bytes())?;
-    Ok(Sent {
-        forwarded: 1,
-        octets: u64::from(octets),
-        ..Sent::default()
-    })
-}
+impl Model for Handler {
+    ghost use Rattle.std.specs.Prelude.{◌≡◌, true};
+    ghost use Rattle.handler.specs.Carrying.{Held, IsReady};
 
-// Sends the packet that the next grant sends, where there is one, and goes past it.
-fn send_next<B: Board>(
-    board: &mut B,
-    table: &mut MemTable,
-    buffers: &mut Buffers,
-) -> Result<Sent, Failed>
-    ensures table { OnOk result ((number : ℕ) → table_of table.new ≡ (grant number (table_of table.old)).table) }
-    ensures sends { OnOk result ((number : ℕ) → SendsLines B.means board.old board.new (grant number (table_of table.old)).outputs) }
-    ensures counted { IfOk result (λ sent. (number : ℕ) → IsCountOf (grant number (table_of table.old)).outputs sent) }
-    ensures breaks { OnErr result ((number : ℕ) → BreaksIn B.means board.old board.new (grant number (table_of table.old)).outputs) }
-{
-    let Some(packet) = table.next() else {
-        return Ok(Sent::default());
-    };
-    let octets = buffers.send(board, CHANNEL, packet)?;
-    table.pass();
-    Ok(Sent {
-        retrieved: 1,
-        octets: u64::from(octets),
-        ..Sent::default()
-    })
+    ghost Value = { Held };
+
+    ghost view = { λ h. record { vault = h.vault; is_open = h.is_open } };
+
+    ghost invariant = { λ h. h.is_open ≡ true → IsReady h.vault };
 }
 
 impl Handler {
-    ghost use Rattle.pst_model.specs.Answers.{answer};
-    ghost use Rattle.pst_model.specs.Arrivals.{arrive};
-    ghost use Rattle.pst_model.specs.Table.{after_format};
-    ghost use Rattle.handler.specs.Faults.{OnLink, OnNoMemory};
-    ghost use Rattle.handler.specs.Handler.{is_open, table_in};
-    ghost use Rattle.handler.specs.Carrying.{CarriesOut};
-    ghost use Rattle.handler.specs.Table.{is_stored};
-
-    /// A handler of the table after a format, which is open.
-    pub fn new(alloc: Global) -> Result<Handler, AllocError>
-        ensures table { IfOk result (λ handler. table_in handler ≡ after_format) }
-        ensures open { IfOk result (λ handler. is_open handler ≡ true) }
+    /// A handler of an open vault.
+    pub fn new(alloc: Global, vault: Vault) -> Result<Handler, AllocError>
+        requires is_open { vault.is_open ≡ true }
+        ensures vault { IfOk result (λ handler. handler.vault ≡ vault) }
+        ensures open { IfOk result (λ handler. handler.is_open ≡ true) }
     {
+        // What is shown of an open vault fits together.
+        let _ = vault.view();
         Ok(Handler {
-            table: MemTable::new(alloc)?,
+            vault,
             buffers: Buffers::new(alloc)?,
-            open: true,
+            is_open: true,
         })
     }
 
-    /// Whether the link has not failed in a call.
+    /// Whether no call has answered `Flash`, `Link` or `Mismatch`.
     pub fn is_open(&self) -> bool
-        ensures { result ≡ is_open self.now }
+        ensures { result ≡ self.now.is_open }
     {
-        self.open
+        self.is_open
     }
 
-    /// Carries out the arrival of a packet at a moment below 2^48, and forwards it on channel 0 where a forward
-    /// pattern covers its key. `NoMemory`: the packet is one that is stored, and nothing of it was done. `Link`: the link failed, and the handler
-    /// is closed.
+    /// The durable table.
+    pub fn vault(&self) -> &Vault
+        ensures { result.now ≡ self.now.vault }
+    {
+        &self.vault
+    }
+
+    /// Passes an idle time at a moment below 2^48. Nothing changes, and nothing is sent.
+    pub fn idle<B: Board>(&mut self, board: &mut B, moment: u64) -> Result<Sent, HandlerFault>
+        requires is_open { self.old.is_open ≡ true }
+        requires moment { moment < 2 ^ 48 }
+        requires board { IsBoardOf B.means self.old.vault board.old }
+        ensures { Answers B.means board.old board.new self.old self.new
+            (λ number table. record { table = table; outputs = [] }) result }
+    {
+        match self.vault.idle(board) {
+            Ok(()) => Ok(Sent::default()),
+            Err(_) => Err(HandlerFault::Flash),
+        }
+    }
+
+    /// Carries out a grant at a moment below 2^48: the packet that it retrieves, if there is one, is
+    /// counted as sent, and then sent on the channel of its store. It reads the pages of its record
+    /// alone. If less than 21 pages of the journal are room, the journal's other half counts
+    /// afterwards.
+    pub fn grant<B: Board>(&mut self, board: &mut B, moment: u64) -> Result<Sent, HandlerFault>
+        requires is_open { self.old.is_open ≡ true }
+        requires moment { moment < 2 ^ 48 }
+        requires board { IsBoardOf B.means self.old.vault board.old }
+        ensures answers { Answers B.means board.old board.new self.old self.new
+            (λ number table. grant number table) result }
+        ensures work { WorksWithin (charge_next self.old.vault)
+            (if_short self.old.vault.journal.room 85 + 2) (if_short self.old.vault.journal.room 7)
+            (if_short self.old.vault.journal.room 13 + 2)
+            (B.means.counts board.old) (B.means.counts board.new) }
+    {
+        let result = send_next(&mut self.vault, &mut self.buffers, board);
+        self.is_open = result.is_ok();
+        result
+    }
+
+    /// Takes in a packet that arrives at a moment below 2^48: the stores that take it, the time and the
+    /// count of the reports are durable before the first line is sent. Then it is forwarded on channel 0
+    /// if a forward pattern covers it, and each refusal that has to be told is reported. It takes no
+    /// memory. If less than 21 pages of the journal are room, the journal's other half counts
+    /// afterwards.
     pub fn arrival<B: Board>(
         &mut self,
-        alloc: Global,
         board: &mut B,
         moment: u64,
         packet: PacketView<'_>,
     ) -> Result<Sent, HandlerFault>
-        requires open { IsTrue (is_open self.old) }
+        requires is_open { self.old.is_open ≡ true }
         requires moment { moment < 2 ^ 48 }
-        ensures done { IfOk result (CarriesOut B.means board.old board.new
-            (λ number. arrive number moment (octets_of packet.entry) (table_in self.old)) (table_in self.new)) }
-        ensures breaks { OnLink result ((number : ℕ) → BreaksIn B.means board.old board.new
-            (arrive number moment (octets_of packet.entry) (table_in self.old)).outputs) }
-        ensures nothing { OnNoMemory result ((board.new ≡ board.old) × (table_in self.new ≡ table_in self.old)) }
-        ensures stored { OnNoMemory result (IsTrue (is_stored (octets_of packet.entry) (table_in self.old))) }
-        ensures open { OnOk result (is_open self.new ≡ true) }
-        ensures closed { OnLink result (is_open self.new ≡ false) }
-        ensures stays_open { OnNoMemory result (is_open self.new ≡ true) }
+        requires board { IsBoardOf B.means self.old.vault board.old }
+        ensures { Answers B.means board.old board.new self.old self.new
+            (λ number table. arrive number moment (octets_of packet.entry) table) result }
     {
-        let forwarded = self.table.forwards(&packet);
-        match self.table.arrival(alloc, moment, packet) {
-            Ok(()) => {}
-            Err(_) => return Err(HandlerFault::NoMemory),
-        }
-        if !forwarded {
-            return Ok(Sent::default());
-        }
-        match send_forwarded(board, &mut self.buffers, packet) {
-            Ok(sent) => Ok(sent),
-            Err(_) => Err(self.close()),
-        }
+        let result = take_in(&mut self.vault, &mut self.buffers, board, moment, packet);
+        self.is_open = result.is_ok();
+        result
     }
 
-    /// Carries out a request, in any packet, at a moment below 2^48, and sends the reports that answer it.
-    /// `Link`: the link failed, and the handler is closed.
+    /// Carries out a request, in any packet, at a moment below 2^48, and sends the reports that answer
+    /// it: all of it is durable before the first report is sent. It reads nothing of the flash, and takes
+    /// no memory. If less than 21 pages of the journal are room, the journal's other half counts
+    /// afterwards.
     pub fn request<B: Board>(
         &mut self,
         alloc: Global,
@@ -143,78 +140,34 @@ impl Handler {
         moment: u64,
         packet: PacketView<'_>,
     ) -> Result<Sent, HandlerFault>
-        requires open { IsTrue (is_open self.old) }
+        requires is_open { self.old.is_open ≡ true }
         requires moment { moment < 2 ^ 48 }
-        ensures done { IfOk result (CarriesOut B.means board.old board.new
-            (λ number. answer (B.means.device board.old).blocks number moment (octets_of packet.entry) (table_in self.old)) (table_in self.new)) }
-        ensures breaks { OnLink result ((number : ℕ) → BreaksIn B.means board.old board.new
-            (answer (B.means.device board.old).blocks number moment (octets_of packet.entry) (table_in self.old)).outputs) }
-        ensures faults { OnErr result (result ≡ Err HandlerFault.Link) }
-        ensures open { is_open self.new ≡ is_ok result }
+        requires board { IsBoardOf B.means self.old.vault board.old }
+        ensures answers { Answers B.means board.old board.new self.old self.new
+            (λ number table. answer (B.means.device board.old).blocks number moment
+            (octets_of packet.entry) table) result }
+        ensures work { WorksWithin 0
+            (if_short self.old.vault.journal.room 85 + 5) (if_short self.old.vault.journal.room 7)
+            (if_short self.old.vault.journal.room 13 + 2)
+            (B.means.counts board.old) (B.means.counts board.new) }
     {
-        let outcome = carry_out_request(&mut self.table, packet);
-        let identifier = identifier_of(packet);
-        match send_answer(
-            board,
-            &mut self.table,
-            &mut self.buffers,
-            moment,
-            identifier,
-            &outcome,
-        ) {
-            Ok(sent) => Ok(sent),
-            Err(_) => Err(self.close()),
-        }
+        let vault = &mut self.vault;
+        let result = answer_request(alloc, vault, &mut self.buffers, board, moment, packet);
+        self.is_open = result.is_ok();
+        result
     }
 
-    /// Carries out a grant at a moment below 2^48, and sends the packet that it retrieves, where there is
-    /// one. `Link`: the link failed, and the handler is closed.
-    pub fn grant<B: Board>(&mut self, board: &mut B, moment: u64) -> Result<Sent, HandlerFault>
-        requires open { IsTrue (is_open self.old) }
-        requires moment { moment < 2 ^ 48 }
-        ensures done { IfOk result (CarriesOut B.means board.old board.new
-            (λ number. grant number (table_in self.old)) (table_in self.new)) }
-        ensures breaks { OnLink result ((number : ℕ) → BreaksIn B.means board.old board.new
-            (grant number (table_in self.old)).outputs) }
-        ensures faults { OnErr result (result ≡ Err HandlerFault.Link) }
-        ensures open { is_open self.new ≡ is_ok result }
-    {
-        match send_next(board, &mut self.table, &mut self.buffers) {
-            Ok(sent) => Ok(sent),
-            Err(_) => Err(self.close()),
-        }
-    }
-
-    /// Passes an idle time at a moment below 2^48. Nothing changes, and nothing is sent.
-    pub fn idle<B: Board>(&mut self, board: &mut B, moment: u64) -> Result<Sent, HandlerFault>
-        requires open { IsTrue (is_open self.old) }
-        requires moment { moment < 2 ^ 48 }
-        ensures done { IfOk result (CarriesOut B.means board.old board.new
-            (λ number. record { table = table_in self.old; outputs = [] }) (table_in self.new)) }
-        ensures fine { IsOk result }
-        ensures board { board.new ≡ board.old }
-        ensures open { is_open self.new ≡ true }
-    {
-        Ok(Sent::default())
-    }
-
-    /// Ends a session: what has to be kept is kept. In memory there is nothing to do.
+    /// Ends a session: what is pending is made durable. Nothing is.
     pub fn finish<B: Board>(&mut self, board: &mut B) -> Result<(), HandlerFault>
-        requires open { IsTrue (is_open self.old) }
-        ensures done { IsOk result }
-        ensures table { table_in self.new ≡ table_in self.old }
+        requires is_open { self.old.is_open ≡ true }
+        requires board { IsBoardOf B.means self.old.vault board.old }
+        ensures done { result ≡ Ok tt }
+        ensures same { self.new ≡ self.old }
         ensures board { board.new ≡ board.old }
-        ensures open { is_open self.new ≡ true }
     {
-        Ok(())
-    }
-
-    // Closes the handler, since the link failed.
-    fn close(&mut self) -> HandlerFault
-        ensures fault { result ≡ HandlerFault.Link }
-        ensures closed { is_open self.new ≡ false }
-    {
-        self.open = false;
-        HandlerFault::Link
+        match self.vault.flush(board) {
+            Ok(()) => Ok(()),
+            Err(_) => Err(HandlerFault::Flash),
+        }
     }
 }

@@ -1,10 +1,11 @@
 // The judgements that come before a request's instructions.
-ghost use Rattle.std.specs.Prelude.{◌≡◌, None, Some, false, MatchResult};
+ghost use Rattle.std.specs.Prelude.{◌≡◌, None, Some, false, IfOk, MatchResult};
 ghost use Rattle.space_packet.specs.View.{octets_of};
 ghost use Rattle.pus_header.specs.Commands.{acks_of, service_of, subtype_of};
 ghost use Rattle.pus_request.specs.View.{asked, listed};
 ghost use Rattle.pst_model.specs.Answers.{data_in, header_refusal, is_pending, refusal_of, request_refusal};
 ghost use Rattle.pst_model.specs.Requests.{items_in};
+ghost use Rattle.request_laws.specs.Counting.{CanBeCarried};
 
 use control_defs::STORAGE;
 use pst_model::{RequestFault, Verdict};
@@ -74,11 +75,12 @@ fn is_pending(service: u8, subtype: u8) -> bool
 
 /// The request that a packet is, or the first judgement that refuses it.
 pub fn judge<'a>(packet: PacketView<'a>) -> Result<Request<'a>, Verdict>
-    ensures { let octets = octets_of packet.entry in MatchResult result
+    ensures judged { let octets = octets_of packet.entry in MatchResult result
         (λ request. (refusal_of octets ≡ None) × (request.acks ≡ acks_of octets)
         × (listed request.items ≡ items_in (service_of octets) (subtype_of octets) (data_in octets))
         × (is_pending (asked request.items).0 (asked request.items).1 ≡ false))
         (λ verdict. refusal_of octets ≡ Some verdict) }
+    ensures carried { IfOk result (λ request. CanBeCarried (listed request.items)) }
 {
     if packet.apid() != APID {
         return Err(Verdict::Refused {

@@ -1,17 +1,14 @@
-//! One command at a time: what an arriving packet, a request or a grant does to the table of packet stores
-//! (ECSS-E-ST-70-41C, 6.14 and 6.15), which is kept in memory, and the lines that go out.
+//! One command at a time: what an arriving packet, a request or a grant does to the durable table of
+//! packet stores (ECSS-E-ST-70-41C, 6.14 and 6.15), and the lines that go out behind it.
 #![tactic(auto)]
 
-mod boot_store;
-mod carrying_out;
-mod content;
+mod arrivals;
 mod fault;
+mod granting;
 mod handler;
 mod judging;
-mod packets;
-mod refusal;
 mod replies;
-mod table;
+mod requests;
 
 pub use fault::HandlerFault;
 pub use handler::Handler;

@@ -1,79 +1,72 @@
 // The reports that answer a request, one behind the other.
-ghost use Rattle.std.specs.Prelude.{◌≡◌, ◌≤◌, ◌<◌, ◌^◌, ℕ, map, length, IfOk, OnOk, OnErr};
-ghost use Rattle.pst_model.specs.Replies.{replied};
-ghost use Rattle.pst_model.specs.Reports.{verdict_report};
-ghost use Rattle.handler.specs.Asked.{content_asked, reports_in};
+ghost use Rattle.std.specs.Prelude.{◌≡◌, ◌≤◌, ◌<◌, ◌^◌, ℕ, length, true, IfOk, OnOk, OnErr};
+ghost use Rattle.handler.specs.Carrying.{IsReady, IsShownBy};
+ghost use Rattle.handler.specs.Reporting.{reports_for};
+ghost use Rattle.pst_model.specs.Contents.{content_report};
+ghost use Rattle.pst_model.specs.Replies.{replies_from};
+ghost use Rattle.pst_model.specs.Reports.{count_behind};
+ghost use Rattle.pst_model.specs.Table.{Table};
+ghost use Rattle.pus_request.specs.View.{listed};
 ghost use Rattle.report_lines.specs.Counting.{IsCountOf, IsSmall};
 ghost use Rattle.report_lines.specs.Sending.{BreaksIn, SendsLines};
-ghost use Rattle.handler.specs.Table.{table_of};
 
-use crate::carrying_out::Outcome;
-use crate::content::write_content;
-use crate::table::MemTable;
 use board::{Board, Failed};
-use pus_report::{Head, Verdict};
+use pus_report::Head;
 use pus_request::Items;
-use report_lines::{Buffers, LONGEST_REPORT, Sent, send_verdicts};
+use report_lines::{Buffers, Sent, completed, send_verdicts, verdicts_before};
+use vault::Vault;
 
-/// The channel of reports.
-const REPORTS: u8 = 0;
+/// The sequence counts of packets (CCSDS 133.0-B, 4.1.3.4.3).
+const COUNTS: u32 = 16384;
 
-/// Sends the reports of at most 34 verdicts on the request with this identifier, and counts them. The moment
-/// is below 2^48.
-pub fn report_verdicts<B: Board>(
-    board: &mut B,
-    table: &mut MemTable,
-    buffers: &mut Buffers,
-    moment: u64,
-    request: [u8; 4],
-    verdicts: &[Verdict],
-) -> Result<Sent, Failed>
-    requires moment { moment < 2 ^ 48 }
-    requires few { length verdicts.now ≤ 34 }
-    ensures table { OnOk result ((number : ℕ) → table_of table.new ≡ (replied number moment (table_of table.old) (map (verdict_report request) verdicts.now)).table) }
-    ensures sends { OnOk result ((number : ℕ) → SendsLines B.means board.old board.new
-        (replied number moment (table_of table.old) (map (verdict_report request) verdicts.now)).outputs) }
-    ensures counted { IfOk result (λ sent. (number : ℕ) → IsCountOf (replied number moment (table_of table.old) (map (verdict_report request) verdicts.now)).outputs sent) }
-    ensures small { IfOk result IsSmall }
-    ensures breaks { OnErr result ((number : ℕ) → BreaksIn B.means board.old board.new
-        (replied number moment (table_of table.old) (map (verdict_report request) verdicts.now)).outputs) }
-{
-    let count = table.count();
-    let sent = send_verdicts(board, buffers, count, moment, request, verdicts)?;
-    table.report(verdicts.len() as u16);
-    Ok(sent)
+/// A request that was carried out.
+#[derive(Clone, Copy)]
+pub(crate) struct Carried<'a> {
+    /// Its identifier.
+    pub identifier: [u8; 4],
+    /// Its acknowledgement flags.
+    pub acks: u8,
+    /// Its instructions.
+    pub items: Items<'a>,
 }
 
-/// Sends the content report on instructions, where there is one. The moment is below 2^48.
-pub fn send_content<B: Board>(
-    board: &mut B,
-    table: &mut MemTable,
-    buffers: &mut Buffers,
-    moment: u64,
-    asked: Option<Items<'_>>,
-) -> Result<Sent, Failed>
-    requires { moment < 2 ^ 48 }
-    ensures table { OnOk result ((number : ℕ) → table_of table.new ≡ (replied number moment (table_of table.old) (content_asked asked.entry (table_of table.old))).table) }
-    ensures sends { OnOk result ((number : ℕ) → SendsLines B.means board.old board.new
-        (replied number moment (table_of table.old) (content_asked asked.entry (table_of table.old))).outputs) }
-    ensures counted { IfOk result (λ sent. (number : ℕ) → IsCountOf (replied number moment (table_of table.old) (content_asked asked.entry (table_of table.old))).outputs sent) }
-    ensures small { IfOk result IsSmall }
-    ensures breaks { OnErr result ((number : ℕ) → BreaksIn B.means board.old board.new
-        (replied number moment (table_of table.old) (content_asked asked.entry (table_of table.old))).outputs) }
+/// The sequence count behind so many reports.
+pub(crate) fn count_after(count: u16, reports: u32) -> u16
+    requires count { count < 16384 }
+    requires reports { reports ≤ 1000 }
+    ensures after { result ≡ count_behind count reports }
+    ensures below { result < 16384 }
 {
-    let Some(items) = asked else {
+    ((u32::from(count) + reports) % COUNTS) as u16
+}
+
+// Sends the content report on instructions, if there is one.
+fn send_content<B: Board>(
+    vault: &Vault,
+    buffers: &mut Buffers,
+    board: &mut B,
+    head: Head,
+    items: &Items<'_>,
+) -> Result<Sent, Failed>
+    requires is_open { vault.now.is_open ≡ true }
+    requires count { head.count < 16384 }
+    requires moment { head.moment < 2 ^ 48 }
+    ensures sends { OnOk result ((table : Table) (number : ℕ) → IsShownBy vault.now table
+        → SendsLines B.means board.old board.new
+        (replies_from number head.moment head.count (content_report (listed items.now) table))) }
+    ensures counted { IfOk result (λ sent. (table : Table) (number : ℕ) → IsShownBy vault.now table
+        → IsCountOf (replies_from number head.moment head.count
+        (content_report (listed items.now) table)) sent) }
+    ensures small { IfOk result IsSmall }
+    ensures breaks { OnErr result ((table : Table) (number : ℕ) → IsShownBy vault.now table
+        → BreaksIn B.means board.old board.new
+        (replies_from number head.moment head.count (content_report (listed items.now) table))) }
+{
+    let view = vault.view();
+    let Some(size) = buffers.write_content(&view, items, head) else {
         return Ok(Sent::default());
     };
-    let head = Head {
-        count: table.count(),
-        moment,
-    };
-    let mut report = [0; LONGEST_REPORT];
-    let Some(length) = write_content(table, &items, head, &mut report) else {
-        return Ok(Sent::default());
-    };
-    let octets = buffers.send(board, REPORTS, &report[..length as usize])?;
-    table.report(1);
+    let octets = buffers.send_report(board, size)?;
     Ok(Sent {
         replies: 1,
         octets: u64::from(octets),
@@ -81,39 +74,47 @@ pub fn send_content<B: Board>(
     })
 }
 
-/// Sends all that answers the request with this identifier, in its order. The moment is below 2^48.
-pub fn send_answer<B: Board>(
-    board: &mut B,
-    table: &mut MemTable,
+/// Sends all that answers a request that was carried out, some of whose instructions failed: each
+/// with its number, from 1, and its code. The first report has the count and the time of the head.
+pub(crate) fn send_answer<B: Board>(
+    vault: &Vault,
     buffers: &mut Buffers,
-    moment: u64,
-    request: [u8; 4],
-    outcome: &Outcome<'_>,
+    board: &mut B,
+    head: Head,
+    request: &Carried<'_>,
+    failures: &[(u8, u8)],
 ) -> Result<Sent, Failed>
-    requires { moment < 2 ^ 48 }
-    ensures table { OnOk result ((number : ℕ) → table_of table.new ≡ (replied number moment (table_of table.old) (reports_in request outcome.now (table_of table.old))).table) }
-    ensures sends { OnOk result ((number : ℕ) → SendsLines B.means board.old board.new
-        (replied number moment (table_of table.old) (reports_in request outcome.now (table_of table.old))).outputs) }
-    ensures counted { IfOk result (λ sent. (number : ℕ) → IsCountOf (replied number moment (table_of table.old) (reports_in request outcome.now (table_of table.old))).outputs sent) }
-    ensures breaks { OnErr result ((number : ℕ) → BreaksIn B.means board.old board.new
-        (replied number moment (table_of table.old) (reports_in request outcome.now (table_of table.old))).outputs) }
+    requires is_open { vault.now.is_open ≡ true }
+    requires count { head.count < 16384 }
+    requires moment { head.moment < 2 ^ 48 }
+    requires few { length failures.now ≤ 32 }
+    ensures sends { OnOk result ((table : Table) (number : ℕ) → IsShownBy vault.now table
+        → SendsLines B.means board.old board.new (replies_from number head.moment head.count
+        (reports_for request.now.identifier request.now.acks failures.now
+        (listed request.now.items) table))) }
+    ensures counted { IfOk result (λ sent. (table : Table) (number : ℕ) → IsShownBy vault.now table
+        → IsCountOf (replies_from number head.moment head.count
+        (reports_for request.now.identifier request.now.acks failures.now
+        (listed request.now.items) table)) sent) }
+    ensures breaks { OnErr result ((table : Table) (number : ℕ) → IsShownBy vault.now table
+        → BreaksIn B.means board.old board.new (replies_from number head.moment head.count
+        (reports_for request.now.identifier request.now.acks failures.now
+        (listed request.now.items) table))) }
 {
-    let first = report_verdicts(
-        board,
-        table,
+    let Head { count, moment } = head;
+    let identifier = request.identifier;
+    let before = verdicts_before(request.acks, failures);
+    let first = send_verdicts(board, buffers, count, moment, identifier, before.as_slice())?;
+    let count = count_after(count, before.len() as u32);
+    let content = send_content(
+        vault,
         buffers,
-        moment,
-        request,
-        outcome.before.as_slice(),
-    )?;
-    let content = send_content(board, table, buffers, moment, outcome.asked)?;
-    let last = report_verdicts(
         board,
-        table,
-        buffers,
-        moment,
-        request,
-        outcome.after.as_slice(),
+        Head { count, moment },
+        &request.items,
     )?;
+    let count = count_after(count, content.replies);
+    let after = completed(request.acks, failures);
+    let last = send_verdicts(board, buffers, count, moment, identifier, after.as_slice())?;
     Ok(first.and(content, last))
 }

@@ -1,1 +1,4 @@
-mod Printed
+pub mod Blank
+pub mod Printed
+pub mod Silent
+pub mod Filed

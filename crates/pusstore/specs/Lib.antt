@@ -1,3 +1,4 @@
+pub mod Filing
 pub mod Making
 pub mod Printing
 pub mod Reports

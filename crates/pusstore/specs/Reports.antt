@@ -1,8 +1,8 @@
 -- How the program ends.
 use Rattle.std.specs.Prelude.{ℕ}
+use Rattle.station.specs.Endings.{status_of}
 use Rattle.pusstore.specs.declared.report.Report.{Report}
 use Rattle.pusstore.specs.declared.report.Report.TheVariants.{Device, File, Session}
-use Rattle.station.specs.Endings.{status_of}
 
 -- the status of the process
 abbrev pub status_in : Report → ℕ

@@ -53,9 +53,21 @@ impl fmt::Display for Report {
             Report::Session(Ending::BadLine { line, why }) => {
                 write!(f, "pusstore: line {line}: {why}")
             }
+            Report::Session(Ending::NotHeld) => f.write_str("pusstore: the flash holds no table"),
             Report::Session(Ending::FlashFault) => f.write_str("pusstore: flash fault"),
             Report::Session(Ending::LinkFault) => f.write_str("pusstore: link fault"),
             Report::Session(Ending::SourceFault) => f.write_str("pusstore: source fault"),
+            Report::Session(
+                Ending::Mismatch {
+                    block,
+                    page,
+                    kept,
+                    found,
+                },
+            ) => write!(
+                f,
+                "pusstore: block {block} page {page}: kept {kept} found {found}"
+            ),
             Report::Session(Ending::NoMemory) => f.write_str("pusstore: no memory"),
         }
     }

@@ -1,11 +1,12 @@
 // Sessions from what is read to what is written: all of the program but its words, its streams and its
 // file.
-ghost use Rattle.std.specs.Prelude.{◌≡◌, ◌≢◌, ◌≤◌, ◌↔◌, IsTrue};
+ghost use Rattle.std.specs.Prelude.{◌≡◌, ◌≢◌, ◌⊎◌, ◌≤◌, ◌↔◌, IsTrue};
 ghost use Rattle.board.specs.Counts.{Rose};
-ghost use Rattle.image_board.specs.FileBoard.{counts_of, device_of};
+ghost use Rattle.station.specs.Words.{AreFormat, AreFresh, AreKnown, AreList, AreOfText, AreRun, texts_of};
+ghost use Rattle.image_board.specs.FileBoard.{counts_of};
 ghost use Rattle.image_board.specs.Reading.{octets_left};
-ghost use Rattle.station.specs.Words.{AreFormat, AreKnown, texts_of};
-ghost use Rattle.pusstore.specs.Printing.{EndsFormat, EndsPrinting, EndsTaking};
+ghost use Rattle.pusstore.specs.Filing.{IsRefused, IsUnwritten};
+ghost use Rattle.pusstore.specs.Printing.{EndsFormat, EndsPrinting, EndsRefused, EndsTaking, EndsUnheld};
 
 use crate::outcome::{outcome, print_sent};
 use board::MemBoard;
@@ -15,7 +16,7 @@ use std::alloc::Global;
 use std::io::Write;
 
 /// A session with these words over the text that is read, on a new device in memory of 16 to 512
-/// blocks. What it sent is written when it has ended.
+/// blocks, which holds no table until it is formatted. What it sent is written when it has ended.
 pub fn session<R: Reader + Drop, W: Write>(
     alloc: Global,
     words: &Vec<String>,
@@ -25,11 +26,16 @@ pub fn session<R: Reader + Drop, W: Write>(
 ) -> Ending
     requires least { 16 ≤ blocks }
     requires most { blocks ≤ 512 }
-    ensures words { AreKnown (texts_of words.now) → result ≢ Ending.BadWords }
+    ensures prints { AreFresh (texts_of words.now) → IsTrue R.tells
+        → EndsPrinting blocks (octets_left (R.remaining input))
+        (W.contents output.old) (W.contents output.new) result }
     ensures format { AreFormat (texts_of words.now)
         → EndsFormat (W.contents output.old) (W.contents output.new) result }
-    ensures prints { ¬ (AreFormat (texts_of words.now)) → IsTrue R.tells → EndsPrinting blocks (octets_left (R.remaining input))
-        (W.contents output.old) (W.contents output.new) result }
+    ensures unheld { AreRun (texts_of words.now) ⊎ AreList (texts_of words.now)
+        → EndsUnheld (W.contents output.old) (W.contents output.new) result }
+    ensures words { ¬ (AreKnown (texts_of words.now))
+        → EndsRefused (W.contents output.old) (W.contents output.new) result }
+    ensures known { AreKnown (texts_of words.now) → result ≢ Ending.BadWords }
 {
     let Ok(mut board) = MemBoard::new(alloc, blocks) else {
         return Ending::NoMemory;
@@ -50,8 +56,14 @@ pub fn file_session<R: Reader + Drop, W: Write>(
 ) -> Ending
     ensures words { (result ≡ Ending.BadWords) ↔ ¬ (AreKnown (texts_of words.now)) }
     ensures unchanged { result ≡ Ending.BadWords → board.new ≡ board.old }
-    ensures reading { ¬ (AreFormat (texts_of words.now)) → IsTrue R.tells → EndsTaking (device_of board.old).blocks
-        (octets_left (R.remaining input)) result }
+    ensures reading { AreOfText (texts_of words.now) → IsTrue R.tells
+        → EndsTaking (octets_left (R.remaining input)) result }
+    ensures format { AreFormat (texts_of words.now)
+        → (result ≡ Ending.Done) ⊎ (result ≡ Ending.FlashFault) }
+    ensures list { AreList (texts_of words.now)
+        → IsUnwritten (counts_of board.old) (counts_of board.new) }
+    ensures refused { AreRun (texts_of words.now) ⊎ AreList (texts_of words.now)
+        → result ≡ Ending.NotHeld → IsRefused (counts_of board.old) (counts_of board.new) }
     ensures flash_cause { result ≡ Ending.FlashFault
         → Rose (counts_of board.old).flash_faults (counts_of board.new).flash_faults }
     ensures link_cause { result ≡ Ending.LinkFault

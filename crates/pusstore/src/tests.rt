@@ -16,12 +16,16 @@ use std::test::Fail;
 
 const TEXT: &[u8] = b"A 000000000010 0864c000000d20031900000000000000000010aa\nG 000000000011\n";
 
+const TEXT_STORED: &[u8] = b"A 000000000010 0864c000000d20031900000000000000000010aa\n";
+
+const TEXT_GRANTED: &[u8] = b"G 000000000011\n";
+
 const SENT: &[u8] = b"1 0864c000000d20031900000000000000000010aa\n";
 
-// The words of a session that formats.
-fn fresh(alloc: Global) -> Result<Vec<String>, AllocError> {
+// The words of a session of one word.
+fn only(alloc: Global, word: &str) -> Result<Vec<String>, AllocError> {
     let mut words = Vec::new(alloc);
-    words.push(String::from_str(alloc, "fresh")?)?;
+    words.push(String::from_str(alloc, word)?)?;
     Ok(words)
 }
 
@@ -40,7 +44,7 @@ fn all_that_was_sent_is_printed_where_there_is_room(rt: HostRuntime) -> Result<(
 
 #[test]
 fn a_session_prints_what_its_text_asks_for(rt: HostRuntime) -> Result<(), Fail> {
-    let words = fresh(rt.alloc())?;
+    let words = only(rt.alloc(), "fresh")?;
     let mut output = Vec::new(rt.alloc());
     let ending = session(rt.alloc(), &words, 16, TEXT, &mut output);
     assert_eq!(rt; ending, Ending::Done);
@@ -49,10 +53,22 @@ fn a_session_prints_what_its_text_asks_for(rt: HostRuntime) -> Result<(), Fail> 
 }
 
 #[test]
+fn a_new_device_in_memory_holds_no_table(rt: HostRuntime) -> Result<(), Fail> {
+    for word in ["run", "list"] {
+        let words = only(rt.alloc(), word)?;
+        let mut output = Vec::new(rt.alloc());
+        let ending = session(rt.alloc(), &words, 16, TEXT, &mut output);
+        assert_eq!(rt; ending, Ending::NotHeld, "{word}");
+        assert!(rt; output.is_empty(), "{word}");
+    }
+    Ok(())
+}
+
+#[test]
 fn a_session_in_a_file_writes_what_its_text_asks_for(rt: HostRuntime) -> Result<(), Fail> {
     let path = "pusstore_test_output";
     let device = "pusstore_test_device";
-    let words = fresh(rt.alloc())?;
+    let words = only(rt.alloc(), "fresh")?;
     let output = File::create(&rt, path)?;
     let image = open_image(&rt, device, true)?;
     let mut board = FileBoard::new(image.file, image.blocks, output);
@@ -67,13 +83,58 @@ fn a_session_in_a_file_writes_what_its_text_asks_for(rt: HostRuntime) -> Result<
 #[test]
 fn a_session_in_a_file_that_takes_no_writes_sends_nothing(rt: HostRuntime) -> Result<(), Fail> {
     let path = "pusstore_test_nothing";
-    let words = fresh(rt.alloc())?;
+    let words = only(rt.alloc(), "fresh")?;
     let output = File::create(&rt, path)?;
     let mut board = FileBoard::new(File::open(&rt, "/dev/null")?, 16, output);
     let ending = file_session(rt.alloc(), &words, TEXT, &mut board);
     assert_eq!(rt; ending, Ending::FlashFault);
     assert_eq!(rt; fs::read(&rt, path)?.as_slice(), b"".as_slice());
     fs::remove_file(&rt, path)?;
+    Ok(())
+}
+
+#[test]
+fn a_file_that_holds_no_table_is_left_as_it_was(rt: HostRuntime) -> Result<(), Fail> {
+    let path = "pusstore_test_unheld_output";
+    let device = "pusstore_test_unheld";
+    let mut board = {
+        let output = File::create(&rt, path)?;
+        let image = open_image(&rt, device, true)?;
+        FileBoard::new(image.file, image.blocks, output)
+    };
+    let before = fs::read(&rt, device)?;
+    for word in ["run", "list"] {
+        let words = only(rt.alloc(), word)?;
+        let ending = file_session(rt.alloc(), &words, TEXT, &mut board);
+        assert_eq!(rt; ending, Ending::NotHeld, "{word}");
+    }
+    assert!(rt; fs::read(&rt, device)? == before);
+    assert_eq!(rt; fs::read(&rt, path)?.as_slice(), b"".as_slice());
+    fs::remove_file(&rt, path)?;
+    fs::remove_file(&rt, device)?;
+    Ok(())
+}
+
+#[test]
+fn a_table_outlives_its_session(rt: HostRuntime) -> Result<(), Fail> {
+    let path = "pusstore_test_outliving_output";
+    let device = "pusstore_test_outliving";
+    let rows: [(&str, &[u8], &[u8]); 3] = [
+        ("fresh", TEXT_STORED, b""),
+        ("run", TEXT_GRANTED, SENT),
+        ("run", TEXT_GRANTED, b""),
+    ];
+    for (word, text, sent) in rows {
+        let words = only(rt.alloc(), word)?;
+        let output = File::create(&rt, path)?;
+        let image = open_image(&rt, device, true)?;
+        let mut board = FileBoard::new(image.file, image.blocks, output);
+        let ending = file_session(rt.alloc(), &words, text, &mut board);
+        assert_eq!(rt; ending, Ending::Done, "{word}");
+        assert_eq!(rt; fs::read(&rt, path)?.as_slice(), sent, "{word}");
+    }
+    fs::remove_file(&rt, path)?;
+    fs::remove_file(&rt, device)?;
     Ok(())
 }
 
@@ -97,6 +158,34 @@ fn what_is_said_of_a_file_names_it(rt: HostRuntime) -> Result<(), Fail> {
     let said = format!(in rt.alloc(); "{report}")?;
     assert_eq!(rt; said.as_str(), "pusstore: cannot use a path");
     assert!(rt; !report.is_done());
+    Ok(())
+}
+
+#[test]
+fn what_is_said_of_an_ending_names_it(rt: HostRuntime) -> Result<(), Fail> {
+    let mismatch = Ending::Mismatch {
+        block: 9,
+        page: 255,
+        kept: 4_294_967_295,
+        found: 0,
+    };
+    let rows = [
+        (
+            Ending::BadWords,
+            "pusstore: words: use run, fresh, format, list or generate NUMBER COUNT",
+        ),
+        (Ending::NotHeld, "pusstore: the flash holds no table"),
+        (Ending::FlashFault, "pusstore: flash fault"),
+        (
+            mismatch,
+            "pusstore: block 9 page 255: kept 4294967295 found 0",
+        ),
+        (Ending::NoMemory, "pusstore: no memory"),
+    ];
+    for (ending, text) in rows {
+        let said = format!(in rt.alloc(); "{}", Report::Session(ending))?;
+        assert_eq!(rt; said.as_str(), text);
+    }
     Ok(())
 }
 

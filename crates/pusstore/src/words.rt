@@ -20,7 +20,11 @@ const USAGE: &str = "pusstore mem N WORD..\n       pusstore file PATH WORD..";
 /// What the words are, as `--help` prints it.
 const WORDS: &str = "\
 N is 16 to 512 blocks of 65,536 octets. The file at PATH has as many. A PATH that begins with - stands behind --.
-WORD is `fresh` (formats the device, and carries out the text of standard input) or `format`.";
+WORD is one of:
+  run     carries out the text of standard input on the table that the device holds
+  fresh   formats the device, and carries out the text
+  format  formats the device
+  list    prints the table that the device holds";
 
 /// What the program is called for.
 #[derive(Drop)]

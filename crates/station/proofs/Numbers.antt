@@ -6,7 +6,7 @@ use Rattle.std.specs.Prelude.{◌-◌, ◌==◌, zero, suc, ◌⊎◌, fold, Som
 use Rattle.std.specs.List.{list_all}
 use Rattle.std.specs.Result.{OkIff}
 use Rattle.std.specs.Str.Parse.{ParsesUnsigned}
-use Rattle.station.specs.Words.{blocks_of, is_digit, is_number, number_of}
+use Rattle.station.specs.Devices.{blocks_of, is_digit, is_number, number_of}
 
 own : IsNumeralModel (λ digits. list_all is_digit digits ≡ true) number_of
 own = numerals_by_fold _ (search rules) (λ number digits. fold (λ number digit. 10 * number + (digit - 48)) number digits) (search rules)

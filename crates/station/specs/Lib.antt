@@ -1,5 +1,10 @@
+pub mod Carrying
+pub mod Devices
 pub mod Endings
+pub mod Opening
+pub mod Reading
 pub mod Rehearsal
 pub mod Session
+pub mod Station
+pub mod Turns
 pub mod Words
-pub mod Promises

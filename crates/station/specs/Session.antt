@@ -1,143 +1,111 @@
--- A session: what it has carried out so far, and what its ending says.
-use Rattle.std.specs.Prelude.{◌≡◌, ◌≢◌, ◌⊎◌, ◌≤◌, ◌+◌, ◌-◌, ◌∷◌, ◌++◌, ℕ, Bool, true, false, List, [], length, take, IsTrue, Some, None, MatchOption, ⊤}
-use Rattle.board.specs.Counts.{Rose, Sends}
+-- A session on a table: what a stop leaves at each moment, what was sent, and what its ending says.
+use Rattle.std.specs.Prelude.{◌≡◌, ◌⊎◌, ◌≤◌, ◌+◌, ◌++◌, ◌∷◌, [], ℕ, List, length, IsTrue}
+use Rattle.board.specs.Counts.{RoseBy}
 use Rattle.board.specs.Meaning.{BoardMeaning, SourceMeaning, TellsFlash, TellsLink}
 use Rattle.board.specs.Moments.{GainsFront, SendsOnly}
-use Rattle.board.specs.Reads.{FlashStays}
-use Rattle.report_lines.specs.Sending.{BreaksIn, SendsLines}
-use Rattle.handler.specs.Table.{is_stored}
-use Rattle.pst_model.specs.Command.{Command, Arrival, Grant, Idle, Request}
-use Rattle.pst_model.specs.Rules.{Output}
-use Rattle.session_text.specs.Reader.{Reader, spare}
-use Rattle.session_text.specs.Progress.{HasRead}
-use Rattle.pst_model.specs.Text.{bad_read, commands_of, commands_read, first_bad}
 use Rattle.station.specs.declared.ending.Ending.{Ending}
-use Rattle.station.specs.declared.ending.Ending.TheVariants.{Done, BadWords, BadLine, FlashFault, LinkFault, SourceFault, NoMemory}
-use Rattle.pst_model.specs.Run.{lines_of, run}
-use Rattle.pst_model.specs.Table.{Table, after_format}
+use Rattle.station.specs.declared.ending.Ending.TheVariants.{BadLine, BadWords, Done, FlashFault, LinkFault, Mismatch, NoMemory, NotHeld, SourceFault}
+use Rattle.station.specs.Reading.{EndsReading, HasNext, read_of}
+use Rattle.station.specs.Turns.{HoldsPrefix, InTurn}
+use Rattle.image_table.specs.Standing.{HoldsEitherTable, HoldsTable}
+use Rattle.pst_model.specs.Command.{Command}
+use Rattle.pst_model.specs.Rules.{Output}
+use Rattle.pst_model.specs.Run.{lines_of, run, step}
+use Rattle.pst_model.specs.Table.{Table}
+use Rattle.turn_laws.specs.Turns.{outputs_of, table_after}
 
--- the octets of a text that are taken, at most: 2 ^ 40
-abbrev pub text_limit : ℕ
-text_limit = 1099511627776
+module _ {B : Type 0} (means : BoardMeaning B) where
+  -- Each image that a stop leaves of this board now has P.
+  abbrev pub LeavesNow : B → ((ℕ → List ℕ) → Type 0) → Type 0
+  LeavesNow board P = (image : ℕ → List ℕ) → means.images board (means.moment board) image → P image
 
--- what goes out for commands on the table after a format, on a device of so many blocks, and its lines
-abbrev pub outputs_for : (blocks : ℕ) → List Command → List Output
-outputs_for blocks commands = (run blocks after_format commands).outputs
+  -- What the flash of a board holds is this table, and so does each image that a stop leaves of it.
+  pub record HoldsAll (blocks : ℕ) (table : Table) (board : B) : Type 0 where
+    pub content : HoldsTable blocks table (means.flash board).content
+    pub leaves : LeavesNow board (HoldsTable blocks table)
 
-abbrev pub lines_for : (blocks : ℕ) → List Command → List ℕ
-lines_for blocks commands = lines_of (outputs_for blocks commands)
+  -- All lines of the outputs were sent, and nothing else, each by a call of its own.
+  pub record SendsAll (old new : B) (outputs : List Output) : Type 0 where
+    pub octets : TellsLink means old → means.sent new (means.moment new)
+        ≡ means.sent old (means.moment old) ++ lines_of outputs
+    pub least : RoseBy (length outputs) (means.counts old).sends (means.counts new).sends
+    pub most : (means.counts new).sends ≤ (means.counts old).sends + length outputs
 
--- the octets that were taken of a text, of which these are left
-abbrev pub taken_of : (text left : List ℕ) → List ℕ
-taken_of text left = take (length text - length left) text
+  -- All lines of the first outputs were sent, and a prefix of those of the next ones, by at most a call
+  -- for each.
+  pub record BreaksWithin (old new : B) (first next : List Output) : Type 0 where
+    pub octets : TellsLink means old → GainsFront
+        (means.sent old (means.moment old) ++ lines_of first) (lines_of next)
+        (means.sent new (means.moment new))
+    pub most : (means.counts new).sends
+        ≤ (means.counts old).sends + (length first + length next)
 
--- The commands of the lines whose LF was taken too, of a text of which these octets are left.
-abbrev pub whole_read : (text left : List ℕ) → List Command
-whole_read text left = commands_read text_limit (taken_of text left)
+  -- Which table is held at an ending: the one after the commands carried out. If the link failed, it
+  -- is the one after the next command too. If the flash failed, or differed, it may be that one.
+  abbrev pub EndsHolding : (blocks : ℕ) → Table → (done others : List Command) → (new : B) → Ending
+      → Type 0
+  EndsHolding blocks table done others new Done = HoldsAll blocks (run blocks table done).table new
+  EndsHolding blocks table done others new (BadLine line why) =
+      HoldsAll blocks (run blocks table done).table new
+  EndsHolding blocks table done others new SourceFault =
+      HoldsAll blocks (run blocks table done).table new
+  EndsHolding blocks table done others new NoMemory =
+      HoldsAll blocks (run blocks table done).table new
+  EndsHolding blocks table done others new LinkFault = LeavesNow new
+      (HoldsTable blocks (table_after blocks table (done ++ others) (length done + 1)))
+  EndsHolding blocks table done others new FlashFault = LeavesNow new
+      (HoldsEitherTable blocks (run blocks table done).table
+      (table_after blocks table (done ++ others) (length done + 1)))
+  EndsHolding blocks table done others new (Mismatch block page kept found) = ⊥
+  EndsHolding blocks table done others new NotHeld = ⊥
+  EndsHolding blocks table done others new BadWords = ⊥
 
--- The commands read of a text, of which these octets are left: all of them where nothing is left, since then the
--- last line is whole without an LF, and else those of the lines whose LF was taken too.
-abbrev pub read_of : (text left : List ℕ) → List Command
-read_of text [] = commands_of text_limit text
-read_of text (octet ∷ left) = whole_read text (octet ∷ left)
+  -- what goes out for the command behind those carried out
+  abbrev pub next_outputs : (blocks : ℕ) → Table → (done others : List Command) → List Output
+  next_outputs blocks table done [] = []
+  next_outputs blocks table done (command ∷ others) =
+      (step blocks (length done + 1) command (run blocks table done).table).outputs
 
--- a reader that has read nothing yet
-abbrev pub IsStart : Reader → Type 0
-IsStart reader = reader ≡ record { limit = text_limit; place = 0; number = 0; pending = []; closed = false; live = true }
-
--- A command that may want memory: an arrival that is stored.
-abbrev pub IsStoredArrival : Command → Table → Type 0
-IsStoredArrival (Arrival moment packet) table = IsTrue (is_stored packet table)
-IsStoredArrival (Request moment packet) table = ⊥
-IsStoredArrival (Grant moment) table = ⊥
-IsStoredArrival (Idle moment) table = ⊥
-
--- Where memory may be wanting, with these commands carried out: none, and nothing was taken of the text; or those
--- in front of an arrival that is stored.
-pub data StopsAt (blocks : ℕ) (text left : List ℕ) (done : List Command) : Type 0 where
-  Unbegun : done ≡ [] → left ≡ text → StopsAt blocks text left done
-  AtArrival : (command : Command) (others : List Command) → done ++ command ∷ others ≡ read_of text left
-      → IsStoredArrival command (run blocks after_format done).table → StopsAt blocks text left done
-
--- What an ending says of the text, of which these octets are left: at Done it was read to its end and has
--- no bad line, BadLine is its first one, where the source failed no whole line that was taken is bad, memory was
--- wanting for the session or for an arrival, and where the flash failed nothing was taken.
-abbrev pub EndsReading : (blocks : ℕ) → (text left : List ℕ) → Ending → Type 0
-EndsReading blocks text left Done = (first_bad text_limit text ≡ None) × (left ≡ [])
-EndsReading blocks text left (BadLine line why) = first_bad text_limit text ≡ Some (line, why)
-EndsReading blocks text left SourceFault = bad_read text_limit (taken_of text left) ≡ None
-EndsReading blocks text left LinkFault = ⊤
-EndsReading blocks text left FlashFault = left ≡ text
-EndsReading blocks text left NoMemory = (done : List Command) × StopsAt blocks text left done
-EndsReading blocks text left BadWords = ⊤
-
--- What an ending says of what was sent: all of the outputs for the text's commands, for the commands before its
--- first bad line, for those of the whole lines that were taken where the source failed, and for those carried out
--- where memory was wanting. Where the link failed, it broke within the outputs for the commands read. Where the flash
--- failed nothing was sent.
-abbrev pub EndsSending : (blocks : ℕ) → (text left : List ℕ) → (Sent Broken : List Output → Type 0) → Ending → Type 0
-EndsSending blocks text left Sent Broken Done = Sent (outputs_for blocks (commands_of text_limit text))
-EndsSending blocks text left Sent Broken (BadLine line why) = Sent (outputs_for blocks (commands_of text_limit text))
-EndsSending blocks text left Sent Broken SourceFault = Sent (outputs_for blocks (whole_read text left))
-EndsSending blocks text left Sent Broken LinkFault = Broken (outputs_for blocks (read_of text left))
-EndsSending blocks text left Sent Broken FlashFault = Sent []
-EndsSending blocks text left Sent Broken NoMemory = (done : List Command) × StopsAt blocks text left done × Sent (outputs_for blocks done)
-EndsSending blocks text left Sent Broken BadWords = ⊤
-
--- What the link may have sent by a moment: what it had sent before, and behind it, where the text is told, a
--- front of the lines of the commands read.
-pub record MayBeSent (blocks : ℕ) (told : Bool) (read : List Command) (before octets : List ℕ) : Type 0 where
-  pub gained : List ℕ
-  pub behind : octets ≡ before ++ gained
-  pub lines : IsTrue told → GainsFront before (lines_for blocks read) octets
-
--- Where nothing failed, a session ends as its text says, unless there was no memory.
-abbrev pub EndsAsTold : (text : List ℕ) → Ending → Type 0
-EndsAsTold text ending = MatchOption (first_bad text_limit text)
-    ((ending ≡ Done) ⊎ (ending ≡ NoMemory))
-    (λ bad. (ending ≡ BadLine bad.0 bad.1) ⊎ (ending ≡ NoMemory))
+  -- What was sent at an ending: all lines for the commands carried out. If the link failed, it failed
+  -- within those for the next command.
+  abbrev pub EndsSending : (blocks : ℕ) → Table → (done others : List Command) → (old new : B)
+      → Ending → Type 0
+  EndsSending blocks table done others old new LinkFault = BreaksWithin old new
+      (outputs_of blocks table done) (next_outputs blocks table done others)
+  EndsSending blocks table done others old new ending =
+      SendsAll old new (outputs_of blocks table done)
 
 module _ {B S : Type 0} (means : BoardMeaning B) (input : SourceMeaning S) where
-  -- What no text changes, and how its session calls the outside: the flash is as it was, the link alone was called, and the
-  -- source, where it tells, once for each octet that it gave at most, and once more.
-  pub record Keeps (board board' : B) (source source' : S) : Type 0 where
-    pub device : means.device board' ≡ means.device board
-    pub tells : input.tells source' ≡ input.tells source
-    pub flash : TellsFlash means board → FlashStays means board board'
-    pub sends : ℕ
-    pub work : Sends sends (means.counts board) (means.counts board')
-    pub source_faults : input.faults source ≤ input.faults source'
-    pub takes_from : input.takes source ≤ input.takes source'
-    pub takes_to : IsTrue (input.tells source)
-        → input.takes source' + length (input.left source') ≤ input.takes source + length (input.left source) + 1
-
-  -- Since the board and the source at first, these commands were carried out, and no others read.
-  pub record Carried (board board' : B) (source source' : S) (reader : Reader) (table : Table) : Type 0 where
+  -- A session on this table, of a board that tells its flash. What it says of images holds from this
+  -- moment on.
+  pub record Carries (start : ℕ) (table : Table) (old new : B) (origin source : S) (ending : Ending)
+      : Type 0 where
+    -- the commands that were carried out, and the others that were read
     pub done : List Command
-    pub live : reader.live ≡ true
-    pub limit : reader.limit ≡ text_limit
-    pub read : IsTrue (input.tells source) → HasRead (input.left source) done reader (input.left source')
-    pub stands : table ≡ (run (means.device board).blocks after_format done).table
-    pub lines : SendsLines means board board' (outputs_for (means.device board).blocks done)
-    pub tells : input.tells source' ≡ input.tells source
-    pub source_faults : input.faults source' ≡ input.faults source
-    pub takes_from : input.takes source ≤ input.takes source'
-    pub takes_to : IsTrue (input.tells source)
-        → input.takes source' + length (input.left source') + spare reader ≤ input.takes source + length (input.left source) + 1
-
-  -- A session that began with the first board and source ended so with the others.
-  pub record Ended (board board' : B) (source source' : S) (ending : Ending) : Type 0 where
-    pub known : ending ≢ BadWords
-    pub unformatted : ending ≢ FlashFault
-    pub taken : IsTrue (input.tells source)
-        → input.left source ≡ taken_of (input.left source) (input.left source') ++ input.left source'
-    pub reading : IsTrue (input.tells source) → EndsReading (means.device board).blocks (input.left source) (input.left source') ending
-    pub sending : IsTrue (input.tells source) → EndsSending (means.device board).blocks (input.left source) (input.left source')
-        (SendsLines means board board') (BreaksIn means board board') ending
-    pub moments : TellsLink means board → SendsOnly means board board' (MayBeSent (means.device board).blocks (input.tells source)
-        (read_of (input.left source) (input.left source')) (means.sent board (means.moment board)))
-    pub link_cause : ending ≡ LinkFault → Rose (means.counts board).link_faults (means.counts board').link_faults
-    pub source_cause : ending ≡ SourceFault → Rose (input.faults source) (input.faults source')
-    pub link_kept : ending ≢ LinkFault → (means.counts board').link_faults ≡ (means.counts board).link_faults
-    pub source_kept : ending ≢ SourceFault → input.faults source' ≡ input.faults source
-    pub keeps : Keeps board board' source source'
+    pub others : List Command
+    pub read : IsTrue (input.tells origin)
+        → done ++ others ≡ read_of (input.left origin) (input.left source)
+    pub reading : IsTrue (input.tells origin)
+        → EndsReading (input.left origin) (input.left source) done ending
+    -- if the link failed, it was within a command
+    pub broken : ending ≡ LinkFault → HasNext others
+    -- at each moment a prefix of their lines had been sent
+    pub moments : TellsLink means old → SendsOnly means old new
+        (GainsFront (means.sent old (means.moment old))
+        (lines_of (outputs_of (means.device old).blocks table (done ++ others))))
+    pub begun : means.moment old ≤ start
+    pub reached : start ≤ means.moment new
+    -- up to the moment nothing was sent
+    pub unsent : TellsLink means old → (t : ℕ) → means.moment old ≤ t → t ≤ start
+        → means.sent new t ≡ means.sent old (means.moment old)
+    -- at each moment from then on, each image goes with what had been sent by then
+    pub in_turn : TellsLink means old → (t : ℕ) (image : ℕ → List ℕ) → start ≤ t
+        → t ≤ means.moment new → means.images new t image
+        → InTurn (means.device old).blocks table (done ++ others)
+        (means.sent old (means.moment old)) (means.sent new t) image
+    -- if the link is not told, each image holds the table after a prefix of the commands
+    pub prefix : (t : ℕ) (image : ℕ → List ℕ) → start ≤ t → t ≤ means.moment new
+        → means.images new t image
+        → HoldsPrefix (means.device old).blocks table (done ++ others) image
+    pub holding : EndsHolding means (means.device old).blocks table done others new ending
+    pub sending : EndsSending means (means.device old).blocks table done others old new ending

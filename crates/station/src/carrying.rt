@@ -1,24 +1,19 @@
-// The commands of a text carried out on the table after a format, in memory.
-ghost use Rattle.std.specs.Prelude.{◌≡◌, ◌≤◌, ◌<◌, ◌++◌, ◌^◌, ◌↔◌, ℕ, true, IsTrue, OnOk, IfOk, IfSome, IfNone};
-ghost use Rattle.board.specs.Counts.{Rose};
-ghost use Rattle.board.specs.Meaning.{TellsLink};
-ghost use Rattle.board.specs.Moments.{SendsOnly};
+// The commands of a text carried out on the table for which an open vault stands.
+ghost use Rattle.std.specs.Prelude.{◌≡◌, ◌≤◌, ◌<◌, ◌^◌, true, IsTrue, IfSome, IfNone};
+ghost use Rattle.handler.specs.Carrying.{Answers, IsBoardOf};
+ghost use Rattle.station.specs.Carrying.{Carried, Ended};
+ghost use Rattle.station.specs.Reading.{IsStart};
 ghost use Rattle.pst_model.specs.Run.{step};
-ghost use Rattle.pst_model.specs.Table.{after_format};
 ghost use Rattle.session_text.specs.Lending.{reader_of};
 ghost use Rattle.session_text.specs.Shown.{command_of, moment_of};
-ghost use Rattle.handler.specs.Faults.{OnLink, OnNoMemory};
-ghost use Rattle.handler.specs.Handler.{is_open, table_in};
-ghost use Rattle.handler.specs.Carrying.{CarriesOut};
-ghost use Rattle.report_lines.specs.Sending.{BreaksIn, SendsLines};
-ghost use Rattle.station.specs.Session.{Carried, Ended, EndsAsTold, EndsReading, EndsSending, IsStart, IsStoredArrival, Keeps, MayBeSent, read_of, taken_of};
-ghost use Rattle.station.specs.Words.{AreFresh, texts_of};
+ghost use Rattle.vault.specs.Memory.{IsSound};
 
 use crate::ending::Ending;
 use board::{Board, Source};
 use handler::{Handler, HandlerFault, Sent};
 use session_text::{Command, LineEnd, Lines};
 use std::alloc::Global;
+use vault::Vault;
 
 /// The octets of a text that are taken, at most: 2^40.
 const TEXT_LIMIT: u64 = 1_099_511_627_776;
@@ -30,21 +25,51 @@ fn carry_out<B: Board>(
     board: &mut B,
     command: Command<'_>,
 ) -> Result<Sent, HandlerFault>
-    requires open { IsTrue (is_open handler.old) }
+    requires is_open { handler.old.is_open ≡ true }
     requires moment { moment_of command < 2 ^ 48 }
-    ensures done { IfOk result (CarriesOut B.means board.old board.new
-        (λ number. step (B.means.device board.old).blocks number (command_of command.entry) (table_in handler.old)) (table_in handler.new)) }
-    ensures breaks { OnLink result ((number : ℕ) → BreaksIn B.means board.old board.new
-        (step (B.means.device board.old).blocks number (command_of command.entry) (table_in handler.old)).outputs) }
-    ensures nothing { OnNoMemory result (board.new ≡ board.old) }
-    ensures stored { OnNoMemory result (IsStoredArrival (command_of command.entry) (table_in handler.old)) }
-    ensures open { OnOk result (is_open handler.new ≡ true) }
+    requires board { IsBoardOf B.means handler.old.vault board.old }
+    ensures { Answers B.means board.old board.new handler.old handler.new
+        (λ number table. step (B.means.device board.old).blocks number (command_of command.entry) table)
+        result }
 {
     match command {
-        Command::Arrival { moment, packet } => handler.arrival(alloc, board, moment, packet),
+        Command::Arrival { moment, packet } => handler.arrival(board, moment, packet),
         Command::Request { moment, packet } => handler.request(alloc, board, moment, packet),
         Command::Grant { moment } => handler.grant(board, moment),
         Command::Idle { moment } => handler.idle(board, moment),
+    }
+}
+
+// Makes durable what is pending, before the session ends so.
+fn finish<B: Board>(handler: &mut Handler, board: &mut B, ending: Ending) -> Ending
+    requires is_open { handler.old.is_open ≡ true }
+    requires board { IsBoardOf B.means handler.old.vault board.old }
+    ensures board { board.new ≡ board.old }
+    ensures ending { result ≡ ending }
+{
+    match handler.finish(board) {
+        Ok(()) => ending,
+        Err(fault) => ending_of(fault),
+    }
+}
+
+// How a session ends where a command was not carried out.
+fn ending_of(fault: HandlerFault) -> Ending {
+    match fault {
+        HandlerFault::Flash => Ending::FlashFault,
+        HandlerFault::Link => Ending::LinkFault,
+        HandlerFault::Mismatch {
+            block,
+            page,
+            kept,
+            found,
+        } => Ending::Mismatch {
+            block,
+            page,
+            kept,
+            found,
+        },
+        HandlerFault::NoMemory => Ending::NoMemory,
     }
 }
 
@@ -56,29 +81,50 @@ fn take_turn<B: Board, S: Source>(
     source: &mut S,
     board: &mut B,
 ) -> Option<Ending>
-    requires open { IsTrue (is_open handler.old) }
+    requires is_open { handler.old.is_open ≡ true }
     requires live { IsTrue (reader_of lines.old).live }
-    ensures goes_on { IfNone result ((first : _) (origin : _)
-        → Carried B.means S.means first board.old origin source.old (reader_of lines.old) (table_in handler.old)
-        → Carried B.means S.means first board.new origin source.new (reader_of lines.new) (table_in handler.new)) }
-    ensures ends { IfSome result (λ ending. (first : _) (origin : _)
-        → Carried B.means S.means first board.old origin source.old (reader_of lines.old) (table_in handler.old)
-        → Ended B.means S.means first board.new origin source.new ending) }
+    requires board { IsBoardOf B.means handler.old.vault board.old }
+    ensures goes_on { IfNone result ((first : _) (origin : _) (begun : _)
+        → Carried B.means S.means first board.old origin source.old begun (reader_of lines.old)
+        handler.old.vault
+        → Carried B.means S.means first board.new origin source.new begun (reader_of lines.new)
+        handler.new.vault) }
+    ensures ends { IfSome result (λ ending. (first : _) (origin : _) (begun : _)
+        → Carried B.means S.means first board.old origin source.old begun (reader_of lines.old)
+        handler.old.vault
+        → Ended B.means S.means first board.new origin source.new begun ending) }
     ensures progress { IfNone result ((reader_of lines.old).place < (reader_of lines.new).place) }
     ensures within { (reader_of lines.new).place ≤ (reader_of lines.new).limit }
     ensures limit { (reader_of lines.new).limit ≡ (reader_of lines.old).limit }
     ensures live { IfNone result (IsTrue (reader_of lines.new).live) }
-    ensures open { IfNone result (IsTrue (is_open handler.new)) }
+    ensures is_open { IfNone result (handler.new.is_open ≡ true) }
+    ensures board { IfNone result (IsBoardOf B.means handler.new.vault board.new) }
 {
     match lines.next_line(source) {
         Ok(Some(command)) => match carry_out(alloc, handler, board, command) {
             Ok(_) => None,
+            Err(HandlerFault::Flash) => Some(Ending::FlashFault),
             Err(HandlerFault::Link) => Some(Ending::LinkFault),
+            Err(
+                HandlerFault::Mismatch {
+                    block,
+                    page,
+                    kept,
+                    found,
+                },
+            ) => Some(Ending::Mismatch {
+                block,
+                page,
+                kept,
+                found,
+            }),
             Err(HandlerFault::NoMemory) => Some(Ending::NoMemory),
         },
-        Ok(None) => Some(Ending::Done),
-        Err(LineEnd::Bad { line, why }) => Some(Ending::BadLine { line, why }),
-        Err(LineEnd::Source) => Some(Ending::SourceFault),
+        Ok(None) => Some(finish(handler, board, Ending::Done)),
+        Err(LineEnd::Bad { line, why }) => {
+            Some(finish(handler, board, Ending::BadLine { line, why }))
+        }
+        Err(LineEnd::Source) => Some(finish(handler, board, Ending::SourceFault)),
     }
 }
 
@@ -90,10 +136,12 @@ fn carry_out_all<B: Board, S: Source>(
     source: &mut S,
     board: &mut B,
 ) -> Ending
-    requires open { IsTrue (is_open handler.old) }
+    requires is_open { handler.old.is_open ≡ true }
     requires reader { IsStart (reader_of lines.old) }
-    requires table { table_in handler.old ≡ after_format }
-    ensures { Ended B.means S.means board.old board.new source.old source.new result }
+    requires sound { IsSound handler.old.vault }
+    requires board { IsBoardOf B.means handler.old.vault board.old }
+    ensures { Ended B.means S.means board.old board.new source.old source.new handler.old.vault
+        result }
 {
     'commands: loop {
         if let Some(ending) = take_turn(alloc, lines, handler, source, board) {
@@ -102,15 +150,23 @@ fn carry_out_all<B: Board, S: Source>(
     }
 }
 
-/// Carries out the commands of the text of `source` on the table after a format, whose output goes to
-/// the link of `board`. The flash is not called.
-pub fn carry_out_text<B: Board, S: Source>(alloc: Global, source: &mut S, board: &mut B) -> Ending
-    ensures { Ended B.means S.means board.old board.new source.old source.new result }
+/// Carries out the commands of the text of `source` on the table for which the vault stands, if the
+/// board tells its flash. Each is durable before its replies and retrieved lines are sent.
+pub fn carry_out_text<B: Board, S: Source>(
+    alloc: Global,
+    vault: Vault,
+    source: &mut S,
+    board: &mut B,
+) -> Ending
+    requires is_open { vault.is_open ≡ true }
+    requires sound { IsSound vault }
+    requires board { IsBoardOf B.means vault board.old }
+    ensures { Ended B.means S.means board.old board.new source.old source.new vault result }
 {
     let Ok(mut lines) = Lines::new(alloc, TEXT_LIMIT) else {
         return Ending::NoMemory;
     };
-    let Ok(mut handler) = Handler::new(alloc) else {
+    let Ok(mut handler) = Handler::new(alloc, vault) else {
         return Ending::NoMemory;
     };
     carry_out_all(alloc, &mut lines, &mut handler, source, board)

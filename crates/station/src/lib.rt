@@ -2,15 +2,19 @@
 #![tactic(auto)]
 
 mod carrying;
+mod device;
 mod ending;
+mod formatting;
+mod opening;
 mod rehearsal;
+mod sending;
 mod session;
 mod words;
 
+pub use device::{Device, device_of};
 pub use ending::Ending;
 pub use rehearsal::{Rehearsal, rehearse};
 pub use session::station;
-pub use words::{Device, device_of};
 
 #[cfg(test)]
 mod tests;

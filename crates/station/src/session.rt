@@ -1,22 +1,27 @@
-// A session with the packet store: its words, the format that it begins with, and its text.
-ghost use Rattle.std.specs.Prelude.{◌≡◌, ◌≢◌, ◌++◌, ◌↔◌, IsTrue};
+// A session with the packet store, by its word.
+ghost use Rattle.std.specs.Prelude.{◌≡◌, ◌++◌, ◌↔◌, IsTrue};
 ghost use Rattle.board.specs.Counts.{Rose};
-ghost use Rattle.board.specs.Meaning.{TellsFlash, TellsLink};
-ghost use Rattle.board.specs.Moments.{SendsOnly};
-ghost use Rattle.station.specs.Promises.{FormatsOnly, HoldsFormat, KeepsPages, LinkBreaks, LinkSends};
-ghost use Rattle.station.specs.Session.{EndsAsTold, EndsReading, EndsSending, MayBeSent, read_of, taken_of};
-ghost use Rattle.station.specs.Words.{AreFormat, AreFresh, AreKnown, texts_of};
+ghost use Rattle.board.specs.Meaning.{TellsFlash};
+ghost use Rattle.station.specs.Reading.{EndsAsTold, Reads, taken_of};
+ghost use Rattle.station.specs.Station.{BeginsFresh, Formats, HasCauses, Held, Keeps, Lists, Runs};
+ghost use Rattle.station.specs.Words.{AreFormat, AreFresh, AreKnown, AreList, AreOfText, AreRun, texts_of};
+ghost use Rattle.pst_model.specs.Table.{Table};
 
-use crate::carrying::carry_out_text;
 use crate::ending::Ending;
-use crate::words::{are_format, are_fresh};
+use crate::formatting::format_only;
+use crate::opening::{fresh_session, run_session};
+use crate::sending::send_held;
+use crate::words::are_only;
 use board::{Board, Source};
-use meta_journal::format;
 use std::alloc::Global;
 
-/// A session. `format`: the flash of `board` is formatted. `fresh`: it is formatted, and then the
-/// commands of the text of `source` are carried out on the table after a format, whose output goes to
-/// the link of `board`. They change no flash.
+/// A session, by the one word that it has.
+///
+/// `run` opens the table that the flash of `board` holds, and carries out the commands of the text of
+/// `source` on it: each is durable before its replies and retrieved lines are sent on the link.
+/// `fresh` formats the flash first. `format` does that alone. `list` sends the listing of the table.
+///
+/// `run` and `list` begin with a barrier: what they read is then durable, whatever came before.
 pub fn station<B: Board, S: Source>(
     alloc: Global,
     words: &Vec<String>,
@@ -24,57 +29,45 @@ pub fn station<B: Board, S: Source>(
     board: &mut B,
 ) -> Ending
     ensures words { (result ≡ Ending.BadWords) ↔ ¬ (AreKnown (texts_of words.now)) }
-    ensures unchanged { result ≡ Ending.BadWords → (board.new ≡ board.old) × (source.new ≡ source.old) }
-    ensures format_only { AreFormat (texts_of words.now)
-        → FormatsOnly B.means S.means board.old board.new source.old source.new result }
+    ensures unchanged { result ≡ Ending.BadWords
+        → (board.new ≡ board.old) × (source.new ≡ source.old) }
 
-    // What was taken of the text, and what the ending says of it.
+    // What each word does.
+    ensures run { AreRun (texts_of words.now)
+        → Runs B.means S.means board.old board.new source.old source.new result }
+    ensures fresh { AreFresh (texts_of words.now)
+        → BeginsFresh B.means S.means board.old board.new source.old source.new result }
+    ensures format { AreFormat (texts_of words.now)
+        → Formats B.means board.old board.new result × (source.new ≡ source.old) }
+    ensures list { AreList (texts_of words.now)
+        → Lists B.means board.old board.new result × (source.new ≡ source.old) }
+
+    // What holds of each word, on every board.
     ensures taken { IsTrue (S.means.tells source.old) → S.means.left source.old
         ≡ taken_of (S.means.left source.old) (S.means.left source.new) ++ S.means.left source.new }
-    ensures reading { ¬ (AreFormat (texts_of words.now)) → IsTrue (S.means.tells source.old)
-        → EndsReading (B.means.device board.old).blocks (S.means.left source.old) (S.means.left source.new) result }
-
-    // What was sent, at the ending and at every moment.
-    ensures sending { ¬ (AreFormat (texts_of words.now)) → IsTrue (S.means.tells source.old)
-        → EndsSending (B.means.device board.old).blocks (S.means.left source.old) (S.means.left source.new)
-        (LinkSends B.means board.old board.new) (LinkBreaks B.means board.old board.new) result }
-    ensures any_moment { TellsLink B.means board.old
-        → SendsOnly B.means board.old board.new (MayBeSent (B.means.device board.old).blocks (S.means.tells source.old)
-        (read_of (S.means.left source.old) (S.means.left source.new)) (B.means.sent board.old (B.means.moment board.old))) }
-
-    // What the flash holds, from before the first octet sent to the ending.
-    ensures holds { result ≢ Ending.BadWords → result ≢ Ending.FlashFault → TellsFlash B.means board.old
-        → HoldsFormat B.means board.old board.new }
-
-    // Where an ending comes from, and that no failure is kept quiet.
-    ensures flash_cause { result ≡ Ending.FlashFault
-        → Rose (B.means.counts board.old).flash_faults (B.means.counts board.new).flash_faults }
-    ensures link_cause { result ≡ Ending.LinkFault
-        → Rose (B.means.counts board.old).link_faults (B.means.counts board.new).link_faults }
-    ensures source_cause { result ≡ Ending.SourceFault → Rose (S.means.faults source.old) (S.means.faults source.new) }
-    ensures no_fault { (result ≢ Ending.FlashFault
-        → (B.means.counts board.new).flash_faults ≡ (B.means.counts board.old).flash_faults)
-        × (result ≢ Ending.LinkFault
-        → (B.means.counts board.new).link_faults ≡ (B.means.counts board.old).link_faults)
-        × (result ≢ Ending.SourceFault → S.means.faults source.new ≡ S.means.faults source.old) }
-    ensures complete { AreFresh (texts_of words.now) → IsTrue (S.means.tells source.old)
+    ensures reading { AreOfText (texts_of words.now) → IsTrue (S.means.tells source.old)
+        → Reads (S.means.left source.old) (S.means.left source.new) result }
+    ensures causes { HasCauses B.means S.means board.old board.new source.old source.new result }
+    ensures complete { AreOfText (texts_of words.now) → IsTrue (S.means.tells source.old)
+        → TellsFlash B.means board.old
+        → (AreRun (texts_of words.now) → (table : Table) × Held B.means board.old table)
         → ¬ (Rose (B.means.counts board.old).flash_faults (B.means.counts board.new).flash_faults)
         → ¬ (Rose (B.means.counts board.old).link_faults (B.means.counts board.new).link_faults)
         → ¬ (Rose (S.means.faults source.old) (S.means.faults source.new))
         → EndsAsTold (S.means.left source.old) result }
-
-    // What no session changes, and how often it calls.
-    ensures keeps { KeepsPages B.means S.means board.old board.new source.old source.new }
+    ensures keeps { Keeps B.means S.means board.old board.new source.old source.new }
 {
-    let only_formats = are_format(words);
-    if !only_formats && !are_fresh(words) {
-        return Ending::BadWords;
+    if are_only(words, "run") {
+        return run_session(alloc, source, board);
     }
-    let Ok(()) = format(board) else {
-        return Ending::FlashFault;
-    };
-    if only_formats {
-        return Ending::Done;
+    if are_only(words, "fresh") {
+        return fresh_session(alloc, source, board);
     }
-    carry_out_text(alloc, source, board)
+    if are_only(words, "format") {
+        return format_only(board);
+    }
+    if are_only(words, "list") {
+        return send_held(alloc, board);
+    }
+    Ending::BadWords
 }

@@ -19,10 +19,31 @@ fn words(alloc: Global, all: &[&str]) -> Result<Vec<String>, AllocError> {
     Ok(words)
 }
 
-// How a session of the text ends, and what it sends.
-fn run(alloc: Global, text: &str) -> Result<Rehearsal, AllocError> {
+// A blank image of 16 blocks.
+fn blank(alloc: Global) -> Result<Vec<u8>, AllocError> {
+    vec![in alloc; 255u8; 65_536 * 16]
+}
+
+// The image that a board leaves.
+fn image_of(alloc: Global, board: &MemBoard) -> Result<Vec<u8>, AllocError> {
+    let mut image = Vec::new(alloc);
+    for block in 0..16u32 {
+        for page in 0..256u32 {
+            image.extend_from_slice(board.page(block, page))?;
+        }
+    }
+    Ok(image)
+}
+
+// How a session of this word and text over an image ends, and what it leaves.
+fn rehearsed(
+    alloc: Global,
+    word: &str,
+    image: Vec<u8>,
+    text: &str,
+) -> Result<Rehearsal, AllocError> {
     let bytes = Vec::from_slice(alloc, text.as_bytes())?;
-    rehearse(alloc, &words(alloc, &["fresh"])?, 16, bytes)
+    rehearse(alloc, &words(alloc, &[word])?, image, bytes)
 }
 
 #[test]
@@ -87,7 +108,7 @@ fn sessions_end_as_their_texts_say(rt: HostRuntime) -> Result<(), Fail> {
     for (text, ending, sent) in rows {
         let text = text.replace(alloc, "P", FRONT)?;
         let sent = sent.replace(alloc, "P", FRONT)?;
-        let rehearsal = run(alloc, text.as_str())?;
+        let rehearsal = rehearsed(alloc, "fresh", blank(alloc)?, text.as_str())?;
         assert_eq!(rt; rehearsal.ending, ending, "{text}");
         assert_eq!(rt; rehearsal.board.sent(), sent.as_bytes(), "{text}");
     }
@@ -95,112 +116,86 @@ fn sessions_end_as_their_texts_say(rt: HostRuntime) -> Result<(), Fail> {
 }
 
 #[test]
-fn a_packet_too_large_ends_behind_the_lines_before_it(rt: HostRuntime) -> Result<(), Fail> {
+fn a_later_session_retrieves_what_an_earlier_one_stored(rt: HostRuntime) -> Result<(), Fail> {
     let alloc = rt.alloc();
-    let mut text = String::from_str(alloc, "A 000000000010 ")?;
-    text.push_str(FRONT)?;
-    text.push_str("aa\nG 000000000011\nA 000000000012 0864c0000ffa")?;
-    for _ in 6..4097 {
-        text.push_str("00")?;
-    }
-    text.push_str("\n")?;
-    let rehearsal = run(alloc, text.as_str())?;
-    let why = LineFault::Packet(PacketFault::TooLarge { need: 4097 });
-    assert_eq!(rt; rehearsal.ending, Ending::BadLine { line: 3, why });
-    assert_eq!(rt; rehearsal.board.sent().len(), 43);
+    let stored = format!(in alloc; "A 000000000010 {FRONT}aa\nA 000000000011 {FRONT}bb\n")?;
+    let first = rehearsed(alloc, "fresh", blank(alloc)?, stored.as_str())?;
+    assert_eq!(rt; first.ending, Ending::Done);
+    assert_eq!(rt; first.board.sent().len(), 0);
+    let image = image_of(alloc, &first.board)?;
+    let second = rehearsed(alloc, "run", image, "G 000000000012\n")?;
+    assert_eq!(rt; second.ending, Ending::Done);
+    let line = format!(in alloc; "1 {FRONT}aa\n")?;
+    assert_eq!(rt; second.board.sent(), line.as_bytes());
+    let image = image_of(alloc, &second.board)?;
+    let third = rehearsed(alloc, "run", image, "G 000000000013\nG 000000000014\n")?;
+    assert_eq!(rt; third.ending, Ending::Done);
+    let line = format!(in alloc; "1 {FRONT}bb\n")?;
+    assert_eq!(rt; third.board.sent(), line.as_bytes());
     Ok(())
 }
 
 #[test]
-fn a_full_store_drops_its_oldest_packet(rt: HostRuntime) -> Result<(), Fail> {
+fn a_blank_device_is_not_run_and_not_listed(rt: HostRuntime) -> Result<(), Fail> {
     let alloc = rt.alloc();
-    let mut text = String::new(alloc);
-    for last in 1..66u8 {
-        text.push_str(format!(in alloc; "A 000000000010 {FRONT}{last:02x}\n")?.as_str())?;
+    for word in ["run", "list"] {
+        let rehearsal = rehearsed(alloc, word, blank(alloc)?, "G 000000000011\n")?;
+        assert_eq!(rt; rehearsal.ending, Ending::NotHeld);
+        assert_eq!(rt; rehearsal.board.count(CallKind::Program), 0);
+        assert_eq!(rt; rehearsal.board.count(CallKind::Send), 0);
     }
-    for _ in 0..65 {
-        text.push_str("G 000000000011\n")?;
-    }
-    let mut sent = String::new(alloc);
-    for last in 2..66u8 {
-        sent.push_str(format!(in alloc; "1 {FRONT}{last:02x}\n")?.as_str())?;
-    }
-    let rehearsal = run(alloc, text.as_str())?;
-    assert_eq!(rt; rehearsal.ending, Ending::Done);
-    assert_eq!(rt; rehearsal.board.sent(), sent.as_bytes());
     Ok(())
 }
 
 #[test]
-fn a_failing_take_or_send_ends_the_session(rt: HostRuntime) -> Result<(), Fail> {
+fn a_formatted_device_is_run_and_listed(rt: HostRuntime) -> Result<(), Fail> {
     let alloc = rt.alloc();
-    let text = format!(in alloc; "A 000000000010 {FRONT}aa\nG 000000000011\n")?;
-    let fresh = words(alloc, &["fresh"])?;
-    let mut board = MemBoard::new(alloc, 16)?;
-    let mut source = MemSource::new(Vec::from_slice(alloc, text.as_bytes())?);
-    source.plan(2);
-    assert_eq!(rt;
-        station(alloc, &fresh, &mut source, &mut board),
-        Ending::SourceFault
-    );
-    assert_eq!(rt; board.sent().len(), 43);
-    let mut board = MemBoard::new(alloc, 16)?;
-    board.plan(CallKind::Send, 1)?;
-    let mut source = MemSource::new(Vec::from_slice(alloc, text.as_bytes())?);
-    assert_eq!(rt;
-        station(alloc, &fresh, &mut source, &mut board),
-        Ending::LinkFault
-    );
-    assert_eq!(rt; board.sent().len(), 0);
-    assert!(rt; !board.starved());
-    Ok(())
-}
-
-// The front of a root page of generation 0 on a device of 16 blocks.
-const ROOT: [u8; 21] = *b"PUSSTORE\x01\x00\x00\x00\x10\x00\x00\x00\x00\x00\x00\x00\x00";
-
-#[test]
-fn a_format_writes_the_roots_and_reads_no_text(rt: HostRuntime) -> Result<(), Fail> {
-    let alloc = rt.alloc();
-    let text = Vec::from_slice(alloc, b"no command")?;
-    let mut rehearsal = rehearse(alloc, &words(alloc, &["format"])?, 16, text)?;
+    let rehearsal = rehearsed(alloc, "format", blank(alloc)?, "no command")?;
     assert_eq!(rt; rehearsal.ending, Ending::Done);
     assert_eq!(rt; rehearsal.board.sent().len(), 0);
-    let mut page = [0; 256];
-    for block in 0..3 {
-        rehearsal.board.read_page(block, 0, &mut page)?;
-        assert!(rt; page.starts_with(&ROOT), "block {block}");
+    let image = image_of(alloc, &rehearsal.board)?;
+    let rehearsal = rehearsed(alloc, "run", image.clone()?, "G 000000000011\n")?;
+    assert_eq!(rt; rehearsal.ending, Ending::Done);
+    assert_eq!(rt; rehearsal.board.sent().len(), 0);
+    let rehearsal = rehearsed(alloc, "list", image, "no command")?;
+    assert_eq!(rt; rehearsal.ending, Ending::Done);
+    assert!(rt;
+        rehearsal
+            .board
+            .sent()
+            .starts_with(b"now 000000000000 reports 0\n")
+    );
+    Ok(())
+}
+
+#[test]
+fn a_call_of_the_flash_that_fails_ends_the_session(rt: HostRuntime) -> Result<(), Fail> {
+    let alloc = rt.alloc();
+    let fresh = words(alloc, &["fresh"])?;
+    for kind in [
+        CallKind::Program,
+        CallKind::Erase,
+        CallKind::Barrier,
+        CallKind::Read,
+    ] {
+        let mut board = MemBoard::new(alloc, 16)?;
+        board.plan(kind, 1)?;
+        let mut source = MemSource::new(Vec::new(alloc));
+        let ending = station(alloc, &fresh, &mut source, &mut board);
+        assert_eq!(rt; ending, Ending::FlashFault, "{kind:?}");
+        assert_eq!(rt; board.sent().len(), 0, "{kind:?}");
     }
     Ok(())
 }
 
-// How a session ends, and what it sends, where one call of the flash fails.
-fn flash_fails(alloc: Global, kind: CallKind, number: u64) -> Result<(Ending, usize), AllocError> {
-    let mut board = MemBoard::new(alloc, 16)?;
-    board.plan(kind, number)?;
-    let text = format!(in alloc; "A 000000000010 {FRONT}aa\nG 000000000011\n")?;
-    let mut source = MemSource::new(Vec::from_slice(alloc, text.as_bytes())?);
-    let ending = station(alloc, &words(alloc, &["fresh"])?, &mut source, &mut board);
-    Ok((ending, board.sent().len()))
-}
-
 #[test]
-fn a_flash_that_fails_ends_the_session_before_its_text(rt: HostRuntime) -> Result<(), Fail> {
-    for (kind, calls) in [
-        (CallKind::Program, 4),
-        (CallKind::Erase, 5),
-        (CallKind::Barrier, 8),
-    ] {
-        for number in [1, calls] {
-            let found = flash_fails(rt.alloc(), kind, number)?;
-            assert!(rt;
-                found == (Ending::FlashFault, 0),
-                "call {number} of {kind:?}"
-            );
-        }
-        let found = flash_fails(rt.alloc(), kind, calls + 1)?;
-        assert!(rt; found == (Ending::Done, 43), "one call of {kind:?} more");
-    }
+fn a_take_that_fails_ends_the_session(rt: HostRuntime) -> Result<(), Fail> {
+    let alloc = rt.alloc();
+    let mut board = MemBoard::new(alloc, 16)?;
+    let mut source = MemSource::new(Vec::from_slice(alloc, b"G 000000000011\n")?);
+    source.plan(2);
+    let ending = station(alloc, &words(alloc, &["fresh"])?, &mut source, &mut board);
+    assert_eq!(rt; ending, Ending::SourceFault);
     Ok(())
 }
 
@@ -209,50 +204,17 @@ fn other_words_are_refused(rt: HostRuntime) -> Result<(), Fail> {
     let alloc = rt.alloc();
     let rows = [
         [].as_slice(),
-        &["run"],
-        &["fresh", "fresh"],
+        &["generate", "1", "1"],
+        &["run", "run"],
         &["format", "fresh"],
-        &["fresh "],
+        &["list "],
         &["Fresh"],
         &[""],
     ];
     for row in rows {
         let text = Vec::from_slice(alloc, b"G 000000000011\n")?;
-        let rehearsal = rehearse(alloc, &words(alloc, row)?, 16, text)?;
+        let rehearsal = rehearse(alloc, &words(alloc, row)?, blank(alloc)?, text)?;
         assert_eq!(rt; rehearsal.ending, Ending::BadWords);
-    }
-    Ok(())
-}
-
-#[test]
-fn devices_are_named_by_two_words(rt: HostRuntime) -> Result<(), Fail> {
-    let alloc = rt.alloc();
-    let memory = |blocks| Some(Device::Memory(blocks));
-    let rows = [
-        (["mem", "16"].as_slice(), memory(16)),
-        (&["mem", "512", "fresh"], memory(512)),
-        (&["mem", "00000000000000000016"], memory(16)),
-        (&["mem", "000000000000000000016"], None),
-        (&["mem", "15"], None),
-        (&["mem", "513"], None),
-        (&["mem", "99999999999999999999"], None),
-        (&["mem", ""], None),
-        (&["mem", "+16"], None),
-        (&["mem", "1 6"], None),
-        (&["mem"], None),
-        (&["memory", "16"], None),
-        (&["16", "mem"], None),
-        (&["file", "image"], Some(Device::File)),
-        (&["file", ""], Some(Device::File)),
-        (&["file", "mem", "fresh"], Some(Device::File)),
-        (&["file"], None),
-        (&["File", "image"], None),
-        (&["files", "image"], None),
-        (&["image", "file"], None),
-        (&[], None),
-    ];
-    for (row, device) in rows {
-        assert_eq!(rt; device_of(&words(alloc, row)?), device);
     }
     Ok(())
 }
@@ -260,13 +222,21 @@ fn devices_are_named_by_two_words(rt: HostRuntime) -> Result<(), Fail> {
 #[test]
 fn endings_have_their_statuses(rt: HostRuntime) {
     let why = LineFault::Form;
+    let mismatch = Ending::Mismatch {
+        block: 7,
+        page: 0,
+        kept: 1,
+        found: 2,
+    };
     let rows = [
         (Ending::Done, 0),
         (Ending::BadWords, 1),
         (Ending::BadLine { line: 1, why }, 2),
+        (Ending::NotHeld, 3),
         (Ending::FlashFault, 4),
         (Ending::LinkFault, 5),
         (Ending::SourceFault, 6),
+        (mismatch, 7),
         (Ending::NoMemory, 8),
     ];
     for (ending, status) in rows {

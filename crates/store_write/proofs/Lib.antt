@@ -1,10 +1,10 @@
 mod Copied
 mod Entries
-mod Lying
+pub mod Lying
 mod Offsets
 mod Ranges
-mod RangesOn
+pub mod RangesOn
 mod Running
-mod Shared
+pub mod Shared
 mod Spelling
 mod Steps

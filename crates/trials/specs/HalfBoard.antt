@@ -1,41 +1,38 @@
 -- What a board means whose link breaks within a send, and what its calls change.
-use Rattle.std.specs.Prelude.{◌≡◌, ◌⊎◌, ◌+◌, ◌++◌, ℕ, Bool, true, false, List, [], Option, Some, None, length, min, sum, take}
+use Rattle.std.specs.Prelude.{◌≡◌, ◌⊎◌, ◌+◌, ◌++◌, ℕ, Bool, true, List, Option, Some, None, min}
+use Rattle.board.specs.declared.memory.MemBoard.{MemBoard}
 use Rattle.board.specs.Counts.{Counts}
 use Rattle.board.specs.Device.{Device}
-use Rattle.board.specs.Flash.{Flash}
+use Rattle.board.specs.Flash.{Flash, blank}
 use Rattle.board.specs.Meaning.{BoardMeaning}
+use Rattle.board.specs.Memory as memory
 use Rattle.trials.specs.Half.{half_of}
 use Rattle.trials.specs.declared.half_board.HalfBoard.{HalfBoard}
 
--- it tells what it has sent, and nothing of its flash
+-- the device in memory that it passes its calls on to
+abbrev pub board_of : HalfBoard → MemBoard
+board_of half = half.board
+
 abbrev pub device_of : HalfBoard → Device
-device_of board = record { blocks = board.blocks; tells_flash = false; tells_link = true }
+device_of half = memory.device_of (board_of half)
 
 abbrev pub flash_of : HalfBoard → Flash
-flash_of board = record { content = λ p. []; erased = λ p. false; loose = λ p. false }
+flash_of half = memory.flash_of (board_of half)
 
 abbrev pub image_at : HalfBoard → ℕ → (ℕ → List ℕ) → Type 0
-image_at board t image = ⊥
+image_at half = memory.image_at (board_of half)
 
 -- how many steps there were: each send that had memory is one
 abbrev pub moment_of : HalfBoard → ℕ
-moment_of board = length board.steps.items
+moment_of half = memory.moment_of (board_of half)
 
 -- the octets that were sent by a moment
 abbrev pub sent_at : HalfBoard → ℕ → List ℕ
-sent_at board t = take (sum (take t board.steps.items)) board.sent.items
+sent_at half = memory.sent_at (board_of half)
 
--- how often flash and link have failed, and how often each was called; no page is ever read
+-- how often flash and link have failed, and how often each was called
 abbrev pub counts_of : HalfBoard → Counts
-counts_of board = record {
-  flash_faults = board.flash_faults;
-  link_faults = board.link_faults;
-  reads = 0;
-  programs = board.programs;
-  erases = board.erases;
-  barriers = board.barriers;
-  sends = board.made;
-}
+counts_of half = record (memory.counts_of (board_of half)) { link_faults = half.link_faults }
 
 -- all of it as one value
 abbrev pub half_means : BoardMeaning HalfBoard
@@ -50,34 +47,28 @@ half_means = record {
 
 -- how many sends there were, those that failed among them
 abbrev pub sends_made : HalfBoard → ℕ
-sends_made board = board.made
+sends_made half = half.made
 
 -- the number of the send that is to fail
 abbrev pub planned_send : HalfBoard → Option ℕ
-planned_send board = board.planned
+planned_send half = half.planned
 
 -- whether a call has found no memory
 abbrev pub is_starved : HalfBoard → Bool
-is_starved board = board.starved
+is_starved half = memory.is_starved (board_of half)
 
 -- A board that was just made.
-pub record IsNewBoard (blocks : ℕ) (board : HalfBoard) : Type 0 where
-  pub device : device_of board ≡ record { blocks = blocks; tells_flash = false; tells_link = true }
-  pub moment : moment_of board ≡ 0
-  pub sent : sent_at board (moment_of board) ≡ []
-  pub counts : counts_of board ≡ record { flash_faults = 0; link_faults = 0; reads = 0; programs = 0; erases = 0; barriers = 0; sends = 0 }
-  pub made : sends_made board ≡ 0
-  pub planned : planned_send board ≡ None
-  pub starved : is_starved board ≡ false
+pub record IsNewBoard (blocks : ℕ) (half : HalfBoard) : Type 0 where
+  pub over : memory.IsNewBoard blocks (λ p. blank) true (board_of half)
+  pub link_faults : (counts_of half).link_faults ≡ 0
+  pub made : sends_made half ≡ 0
+  pub planned : planned_send half ≡ None
 
 -- Nothing changes but what is to fail.
 pub record SameButPlan (old new : HalfBoard) : Type 0 where
-  pub device : device_of new ≡ device_of old
-  pub moment : moment_of new ≡ moment_of old
-  pub sent : (t : ℕ) → sent_at new t ≡ sent_at old t
+  pub over : board_of new ≡ board_of old
   pub counts : counts_of new ≡ counts_of old
   pub made : sends_made new ≡ sends_made old
-  pub starved : is_starved new ≡ is_starved old
 
 -- the new board's last send was planned to fail
 abbrev pub IsPlannedSend : HalfBoard → HalfBoard → Type 0

@@ -66,7 +66,7 @@ fn session(
 ) -> Result<(Ending, Vec<u8>), AllocError>
     requires { 0 < most }
 {
-    let mut board = HalfBoard::new(alloc, 16);
+    let mut board = HalfBoard::new(alloc, 16)?;
     let mut source = ShortSource::new(text.to_vec(alloc)?, most);
     if let Some(number) = failing {
         source.plan(number);

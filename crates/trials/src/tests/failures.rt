@@ -19,7 +19,7 @@ fn send_breaks(
 ) -> Result<(Ending, Vec<u8>), AllocError>
     requires { 0 < most }
 {
-    let mut board = HalfBoard::new(alloc, 16);
+    let mut board = HalfBoard::new(alloc, 16)?;
     board.plan(number);
     let mut source = ShortSource::new(text.to_vec(alloc)?, most);
     let ending = station(alloc, &fresh(alloc)?, &mut source, &mut board);
@@ -31,7 +31,8 @@ fn short_takes_change_no_session(rt: HostRuntime) -> Result<(), Fail> {
     let alloc = rt.alloc();
     let turns = turns(alloc)?;
     let text = text_of(alloc, &turns)?;
-    let whole = rehearse(alloc, &fresh(alloc)?, 16, text.to_vec(alloc)?)?;
+    let image = vec![in alloc; 0xffu8; 16 * 65_536]?;
+    let whole = rehearse(alloc, &fresh(alloc)?, image, text.to_vec(alloc)?)?;
     assert_eq!(rt; whole.ending, Ending::Done);
     assert!(rt; whole.board.sent() == sent_within(alloc, &turns, text.len())?.as_slice());
     for most in MOSTS {
@@ -110,7 +111,7 @@ fn send_all<B: Board>(board: &mut B, texts: &[&[u8]]) -> Result<(), Failed> {
 
 #[test]
 fn a_broken_send_sends_half_and_the_others_all(rt: HostRuntime) -> Result<(), Fail> {
-    let mut board = HalfBoard::new(rt.alloc(), 512);
+    let mut board = HalfBoard::new(rt.alloc(), 512)?;
     board.plan(2);
     assert_eq!(rt; board.blocks(), 512);
     assert_eq!(rt;

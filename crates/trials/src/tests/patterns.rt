@@ -80,7 +80,7 @@ G 000000000004
         (3, 42, Ending::LinkFault),
         (4, 51, Ending::Done),
     ] {
-        let mut board = HalfBoard::new(alloc, 16);
+        let mut board = HalfBoard::new(alloc, 16)?;
         board.plan(number);
         let mut source = ShortSource::new(text.to_vec(alloc)?, 4096);
         let ending = station(alloc, &fresh(alloc)?, &mut source, &mut board);

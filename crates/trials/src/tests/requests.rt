@@ -257,7 +257,7 @@ fn a_link_that_breaks_within_a_report_has_sent_those_before(rt: HostRuntime) -> 
         (2, 73, Ending::LinkFault),
         (3, 98, Ending::Done),
     ] {
-        let mut board = HalfBoard::new(alloc, 16);
+        let mut board = HalfBoard::new(alloc, 16)?;
         board.plan(number);
         let mut source = ShortSource::new(text.to_vec(alloc)?, 4096);
         let ending = station(alloc, &fresh(alloc)?, &mut source, &mut board);

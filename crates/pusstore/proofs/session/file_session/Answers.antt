@@ -1,15 +1,25 @@
-use Rattle.std.proofs.Common.{List, ℕ, ap, subst}
+use Rattle.std.proofs.Common.{List, ℕ, ap, subst, ⊎_elim}
+use Rattle.image_board.specs.FileBoard.{file_means}
 use Rattle.image_board.specs.Reading.{octets_left}
-use Rattle.image_board.specs.FileBoard.{device_of}
 use Rattle.pusstore.specs.Printing.{EndsTaking}
-use Rattle.image_board.specs.FileBoard.{device_of}
+use Rattle.pusstore.proofs.Filed.{list_refused, list_unwritten, run_refused}
 use Rattle.pusstore.proofs.session.file_session.Goals as goal
 
 pub returns-clause-reading : goal.returns-clause-reading
-returns-clause-reading g c other told =
+returns-clause-reading g c are told =
     let same = ap (λ (input : g.row.R.Denot). octets_left (g.R.Read.remaining input)) c.new-source.ensures.input in
-    subst (λ (text : List ℕ). EndsTaking (device_of c.args.board.now).blocks text c.station.result) same (record {
+    subst (λ (text : List ℕ). EndsTaking text c.station.result) same (record {
       left = octets_left (g.R.Read.remaining c.station.new.source.input);
       taken = c.station.ensures.taken told;
-      reading = c.station.ensures.reading other told;
+      reads = c.station.ensures.reading are told;
     })
+
+pub returns-clause-list : goal.returns-clause-list
+returns-clause-list g c are = list_unwritten file_means c.args.board.now c.station.new.board c.station.result (c.station.ensures.list are).0
+
+pub returns-clause-refused : goal.returns-clause-refused
+returns-clause-refused g c are is =
+    ⊎_elim
+    (λ run. run_refused file_means c.args.board.now c.station.new.board c.station.result _ c.new-source.result c.station.new.source (c.station.ensures.run run) is)
+    (λ list. list_refused file_means c.args.board.now c.station.new.board c.station.result (c.station.ensures.list list).0 is)
+    are

@@ -1,29 +1,56 @@
-use Rattle.std.proofs.Common.{List, ℕ, ap, refl, subst}
+use Rattle.std.proofs.Common.{List, ℕ, ap, refl, subst, ⊎_elim}
 use Rattle.image_board.specs.Reading.{octets_left}
 use Rattle.pusstore.specs.Printing.{EndsPrinting}
-use Rattle.pusstore.proofs.Printed.{prints, prints_format}
+use Rattle.pusstore.proofs.Printed.{prints}
+use Rattle.pusstore.proofs.Silent.{known_outcome, prints_format, prints_list, prints_refused, prints_run}
 use Rattle.pusstore.proofs.session.session.Goals as goal
 
 pub returns-clause-prints : goal.returns-clause-prints
-returns-clause-prints g c other told =
+returns-clause-prints g c are told =
     let ended = c.station-ending.ensures in
-    let left = octets_left (g.R.Read.remaining c.station-ending.new.source.input) in
     let before = g.W.Write.contents c.args.output.now in
     let after = g.W.Write.contents c.print_sent-printed.new.output in
     let same = ap (λ (input : g.row.R.Denot). octets_left (g.R.Read.remaining input)) c.new-source.ensures.input in
     subst (λ (text : List ℕ). EndsPrinting c.args.blocks text before after c.outcome.result) same
-    (prints (octets_left (g.R.Read.remaining c.new-source.result.input)) left before after
-    c.args.blocks c.in-Ok.board c.station-ending.new.board c.in-Ok.ensures g.R.Reader.tells told
-    c.station-ending.result c.outcome.result c.starved.result c.print_sent-printed.result
-    c.outcome.ensures.unprinted c.outcome.ensures.no_memory c.outcome.ensures.same
-    (ended.taken told) (ended.reading other told) (ended.sending other told)
-    (ended.any_moment refl) (λ bad. (ended.unchanged bad).0) c.print_sent-printed.ensures.printed)
+    (prints _ c.new-source.result c.station-ending.new.source told before after
+    c.args.blocks c.in-Ok.board c.station-ending.new.board c.in-Ok.ensures c.station-ending.result (ended.taken told) (ended.fresh are refl)
+    c.outcome.result c.starved.result c.print_sent-printed.result
+    c.outcome.ensures.unprinted c.outcome.ensures.no_memory c.outcome.ensures.same c.print_sent-printed.ensures.printed)
 
 pub returns-clause-format : goal.returns-clause-format
-returns-clause-format g c only =
-    let ended = c.station-ending.ensures in
+returns-clause-format g c are =
     prints_format (g.W.Write.contents c.args.output.now) (g.W.Write.contents c.print_sent-printed.new.output)
-    c.args.blocks c.in-Ok.board c.station-ending.new.board c.in-Ok.ensures ((ended.format_only only).unsent refl)
+    c.args.blocks c.in-Ok.board c.station-ending.new.board c.in-Ok.ensures
     c.station-ending.result c.outcome.result c.starved.result c.print_sent-printed.result
-    c.outcome.ensures.unprinted c.outcome.ensures.no_memory c.outcome.ensures.same
-    (ended.format_only only).ends c.print_sent-printed.ensures.printed
+    c.outcome.ensures.unprinted c.outcome.ensures.no_memory c.outcome.ensures.same c.print_sent-printed.ensures.printed
+    (c.station-ending.ensures.format are).0
+
+pub returns-clause-unheld : goal.returns-clause-unheld
+returns-clause-unheld g c are =
+    ⊎_elim
+    (λ run. prints_run (g.W.Write.contents c.args.output.now) (g.W.Write.contents c.print_sent-printed.new.output)
+    c.args.blocks c.in-Ok.board c.station-ending.new.board c.in-Ok.ensures
+    c.station-ending.result c.outcome.result c.starved.result c.print_sent-printed.result
+    c.outcome.ensures.unprinted c.outcome.ensures.no_memory c.outcome.ensures.same c.print_sent-printed.ensures.printed
+    _ c.new-source.result c.station-ending.new.source c.requires.least (c.station-ending.ensures.run run))
+    (λ list. prints_list (g.W.Write.contents c.args.output.now) (g.W.Write.contents c.print_sent-printed.new.output)
+    c.args.blocks c.in-Ok.board c.station-ending.new.board c.in-Ok.ensures
+    c.station-ending.result c.outcome.result c.starved.result c.print_sent-printed.result
+    c.outcome.ensures.unprinted c.outcome.ensures.no_memory c.outcome.ensures.same c.print_sent-printed.ensures.printed
+    c.requires.least (c.station-ending.ensures.list list).0)
+    are
+
+pub returns-clause-words : goal.returns-clause-words
+returns-clause-words g c unknown =
+    let ended = c.station-ending.ensures in
+    let bad = ended.words.1 unknown in
+    prints_refused (g.W.Write.contents c.args.output.now) (g.W.Write.contents c.print_sent-printed.new.output)
+    c.args.blocks c.in-Ok.board c.station-ending.new.board c.in-Ok.ensures
+    c.station-ending.result c.outcome.result c.starved.result c.print_sent-printed.result
+    c.outcome.ensures.unprinted c.outcome.ensures.no_memory c.outcome.ensures.same c.print_sent-printed.ensures.printed
+    bad (ended.unchanged bad).0
+
+pub returns-clause-known : goal.returns-clause-known
+returns-clause-known g c known =
+    known_outcome c.station-ending.result c.outcome.result c.starved.result c.print_sent-printed.result
+    c.outcome.ensures.unprinted c.outcome.ensures.no_memory c.outcome.ensures.same (λ bad. c.station-ending.ensures.words.0 bad known)

@@ -1,28 +1,38 @@
-use Rattle.std.proofs.Common.{◌≡◌, [], ◌∷◌, inl, refl, sym, ◌∙◌}
+use Rattle.std.proofs.Common.{◌≡◌, ◌≤◌, ◌*◌, ◌/◌, ℕ, [], ◌∷◌, inl, inr, refl, sym, ◌∙◌, arith}
 use Rattle.std.specs.Prelude.{codes}
-use Rattle.station.proofs.Rehearsals.{formatted, rehearsed, untouched}
+use Rattle.board.specs.Laws.{content_pages}
+use Rattle.station.proofs.Rehearsals.{rehearsed_format, rehearsed_fresh, rehearsed_list, rehearsed_run}
 use Rattle.station.proofs.rehearsal.rehearse.Goals as goal
 
+sixteen : (n : ℕ) → 16 * 65536 ≤ n → 16 ≤ n / 65536
+sixteen n least = omega arith
+
 -- these are two words
-not_format : codes "fresh" ∷ [] ≡ codes "format" ∷ [] → ⊥
-not_format is = absurd cc
+not_run : codes "fresh" ∷ [] ≡ codes "run" ∷ [] → ⊥
+not_run is = absurd cc
+
+pub returns-clause-run : goal.returns-clause-run
+returns-clause-run c are =
+    let ended = c.station-ending.ensures in
+    rehearsed_run c.args.image.items c.args.text.items c.in_ok-board.board c.new-source.result (sixteen _ c.requires.least) (content_pages c.in_ok-board.board.history) c.in_ok-board.ensures c.new-source.ensures
+    c.station-ending.result c.station-ending.new.board c.station-ending.new.source (ended.run are)
+    (λ table held. ended.complete (inl are) refl refl (λ again. (table, held)))
 
 pub returns-clause-fresh : goal.returns-clause-fresh
-returns-clause-fresh c fresh =
+returns-clause-fresh c are =
     let ended = c.station-ending.ensures in
-    rehearsed c.args.text.items c.station-ending.result c.args.blocks c.in_ok-board.board c.station-ending.new.board c.new-source.result c.station-ending.new.source c.in_ok-board.ensures c.new-source.ensures
-    (λ bad. ended.words.0 bad (inl fresh)) (ended.taken refl) (ended.reading (λ only. not_format (sym fresh ∙ only)) refl) (ended.sending (λ only. not_format (sym fresh ∙ only)) refl) (ended.any_moment refl)
-    (λ known unfailed. ended.holds known unfailed refl) (ended.complete fresh refl) ended.keeps
+    rehearsed_fresh c.args.image.items c.args.text.items c.in_ok-board.board c.new-source.result (sixteen _ c.requires.least) (content_pages c.in_ok-board.board.history) c.in_ok-board.ensures c.new-source.ensures
+    c.station-ending.result c.station-ending.new.board c.station-ending.new.source (ended.fresh are)
+    (ended.complete (inr are) refl refl (λ other. absurd (not_run (sym are ∙ other))))
 
 pub returns-clause-format : goal.returns-clause-format
-returns-clause-format c only =
-    let ended = c.station-ending.ensures in
-    formatted c.args.text.items c.station-ending.result c.args.blocks c.in_ok-board.board c.station-ending.new.board c.new-source.result c.station-ending.new.source c.in_ok-board.ensures c.new-source.ensures
-    (ended.format_only only) (λ known unfailed. ended.holds known unfailed refl) ended.flash_cause ended.keeps
+returns-clause-format c are =
+    let ended = c.station-ending.ensures.format are in
+    rehearsed_format c.args.image.items c.args.text.items c.in_ok-board.board c.new-source.result (sixteen _ c.requires.least) (content_pages c.in_ok-board.board.history) c.in_ok-board.ensures c.new-source.ensures
+    c.station-ending.result c.station-ending.new.board c.station-ending.new.source ended.0 ended.1
 
-pub returns-clause-other_words : goal.returns-clause-other_words
-returns-clause-other_words c other =
-    let ended = c.station-ending.ensures in
-    let bad = ended.words.1 other in
-    untouched c.args.text.items c.station-ending.result c.args.blocks c.in_ok-board.board c.station-ending.new.board c.new-source.result c.station-ending.new.source c.in_ok-board.ensures c.new-source.ensures
-    bad (ended.unchanged bad).0 (ended.unchanged bad).1
+pub returns-clause-list : goal.returns-clause-list
+returns-clause-list c are =
+    let ended = c.station-ending.ensures.list are in
+    rehearsed_list c.args.image.items c.args.text.items c.in_ok-board.board c.new-source.result (sixteen _ c.requires.least) (content_pages c.in_ok-board.board.history) c.in_ok-board.ensures c.new-source.ensures
+    c.station-ending.result c.station-ending.new.board c.station-ending.new.source ended.0 ended.1

@@ -1,30 +1,20 @@
-use Rattle.std.proofs.Common.{ℕ, ◌∙◌, ap, subst}
+use Rattle.std.proofs.Common.{◌≡◌, ℕ, ◌∙◌, ap, subst}
 use Rattle.space_packet.specs.View.{octets_of}
-use Rattle.pst_model.specs.Rules.{Step}
-use Rattle.report_lines.specs.Counting.{IsCountOf}
-use Rattle.report_lines.specs.Sending.{BreaksIn, SendsLines}
-use Rattle.handler.specs.Table.{table_of}
-use Rattle.handler.proofs.Answered.{answered}
+use Rattle.vault.specs.Memory.{InMemory}
+use Rattle.handler.proofs.Asked.{answer_steps}
+use Rattle.handler.proofs.Handlers.{handler_as}
+use Rattle.handler.specs.Carrying.{Answers, Held, handler_of}
 use Rattle.handler.proofs.handler.Handler.request.Goals as goal
 
-pub returns-in-Ok-clause-done : goal.returns-in-Ok-clause-done
-returns-in-Ok-clause-done g c =
+pub returns-clause-answers : goal.returns-clause-answers
+returns-clause-answers g c =
     let means = g.B.Board.means in
-    let is = λ (number : ℕ).
-    answered (means.device c.args.board.now).blocks number c.args.moment (octets_of c.args.packet) c.identifier_of-identifier.result (table_of c.args.self.now.table) (table_of c.carry_out_request-outcome.new.table) c.carry_out_request-outcome.result
-    c.carry_out_request-outcome.ensures c.identifier_of-identifier.ensures in
-    record {
-      table = λ number. c.in-Ok.ensures.table number ∙ ap (λ (step : Step). step.table) (is number);
-      sends = λ number. subst (λ (step : Step). SendsLines means c.args.board.now c.send_answer.new.board step.outputs) (is number) (c.in-Ok.ensures.sends number);
-      counted = λ number. subst (λ (step : Step). IsCountOf step.outputs c.in-Ok.sent) (is number) (c.in-Ok.ensures.counted number);
-    }
-
-pub returns-in-Err-clause-breaks : goal.returns-in-Err-clause-breaks
-returns-in-Err-clause-breaks g c =
-    let means = g.B.Board.means in
-    rw c.close.ensures.fault
-    (λ (number : ℕ).
-    subst (λ (step : Step). BreaksIn means c.args.board.now c.send_answer.new.board step.outputs)
-    (answered (means.device c.args.board.now).blocks number c.args.moment (octets_of c.args.packet) c.identifier_of-identifier.result (table_of c.args.self.now.table) (table_of c.carry_out_request-outcome.new.table) c.carry_out_request-outcome.result
-    c.carry_out_request-outcome.ensures c.identifier_of-identifier.ensures)
-    (c.in-Err.ensures.breaks number))
+    let old = c.args.board.now in
+    let new = c.answer_request-result.new.board in
+    let now = c.answer_request-result.new.vault in
+    let packet = octets_of c.args.packet in
+    let vault : c.self.inside.vault ≡ c.args.self.now.vault = ap (λ (h : Held). h.vault) c.self.view_is in
+    let blocks = ap (λ (v : InMemory). v.blocks) vault ∙ c.requires.board.blocks in
+    subst (λ (n : ℕ). Answers means old new c.args.self.now (handler_of now c.is_ok-self-inside.result) (answer_steps n c.args.moment packet) c.answer_request-result.result) blocks
+    (handler_as means old new c.args.self.now c.self.inside.vault now c.is_ok-self-inside.result (answer_steps c.self.inside.vault.blocks c.args.moment packet)
+    c.answer_request-result.result vault c.requires.is_open c.is_ok-self-inside.ensures.value c.answer_request-result.ensures.answers)

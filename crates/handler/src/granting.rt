@@ -1,0 +1,45 @@
+// A grant: the next packet of retrieval is counted as sent, and then it is sent.
+ghost use Rattle.std.specs.Prelude.{◌≡◌, ◌+◌, OnOk, is_ok, true};
+ghost use Rattle.handler.specs.Carrying.{Answers, IsBoardOf, IsReady, handler_of};
+ghost use Rattle.handler.specs.Working.{WorksWithin};
+ghost use Rattle.pst_model.specs.Rules.{grant};
+ghost use Rattle.vault.specs.Changing.{if_short};
+ghost use Rattle.vault.specs.Granting.{charge_next};
+
+use crate::fault::{HandlerFault, fault_of};
+use board::Board;
+use report_lines::{Buffers, Sent};
+use vault::Vault;
+
+/// Goes past the packet that the next grant sends, if there is one, and sends it.
+pub(crate) fn send_next<B: Board>(
+    vault: &mut Vault,
+    buffers: &mut Buffers,
+    board: &mut B,
+) -> Result<Sent, HandlerFault>
+    requires ready { IsReady vault.old }
+    requires board { IsBoardOf B.means vault.old board.old }
+    ensures answers { Answers B.means board.old board.new (handler_of vault.old true)
+        (handler_of vault.new (is_ok result)) (λ number table. grant number table) result }
+    ensures ready { OnOk result (IsReady vault.new) }
+    ensures work { WorksWithin (charge_next vault.old)
+        (if_short vault.old.journal.room 85 + 2) (if_short vault.old.journal.room 7)
+        (if_short vault.old.journal.room 13 + 2)
+        (B.means.counts board.old) (B.means.counts board.new) }
+{
+    let next = match vault.grant(board) {
+        Ok(next) => next,
+        Err(fault) => return Err(fault_of(fault)),
+    };
+    let Some((channel, packet)) = next else {
+        return Ok(Sent::default());
+    };
+    match buffers.send(board, channel, packet.bytes()) {
+        Ok(octets) => Ok(Sent {
+            retrieved: 1,
+            octets: u64::from(octets),
+            ..Sent::default()
+        }),
+        Err(_) => Err(HandlerFault::Link),
+    }
+}

@@ -1,0 +1,13 @@
+-- What a session on a device in a file does to it, by the counts of its calls: no clause can observe a file.
+use Rattle.std.specs.Prelude.{◌≡◌}
+use Rattle.board.specs.Counts.{Counts}
+
+-- No page was programmed or erased.
+pub record IsUnwritten (old new : Counts) : Type 0 where
+  pub programs : new.programs ≡ old.programs
+  pub erases : new.erases ≡ old.erases
+
+-- Nor was anything sent.
+pub record IsRefused (old new : Counts) : Type 0 where
+  pub unwritten : IsUnwritten old new
+  pub sends : new.sends ≡ old.sends
