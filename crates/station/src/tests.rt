@@ -5,6 +5,7 @@ use board::{Board, CallKind, MemBoard, MemSource};
 use session_text::LineFault;
 use space_packet::PacketFault;
 use std::alloc::{AllocError, Global};
+use std::process::Abort;
 use std::test::Fail;
 
 /// A telemetry packet of APID 100, 20 octets long, up to its last octet.
@@ -35,15 +36,28 @@ fn image_of(alloc: Global, board: &MemBoard) -> Result<Vec<u8>, AllocError> {
     Ok(image)
 }
 
-// How a session of this word and text over an image ends, and what it leaves.
+// How a session of these words and this text over an image of 16 blocks ends, and what it leaves.
+fn rehearsed_words(
+    rt: &impl Abort,
+    alloc: Global,
+    all: &[&str],
+    image: Vec<u8>,
+    text: &str,
+) -> Result<Rehearsal, Fail> {
+    assert!(rt; image.len() == 1_048_576, "an image of 16 blocks");
+    let bytes = Vec::from_slice(alloc, text.as_bytes())?;
+    Ok(rehearse(alloc, &words(alloc, all)?, image, bytes)?)
+}
+
+// How a session of this word ends so, and what it leaves.
 fn rehearsed(
+    rt: &impl Abort,
     alloc: Global,
     word: &str,
     image: Vec<u8>,
     text: &str,
-) -> Result<Rehearsal, AllocError> {
-    let bytes = Vec::from_slice(alloc, text.as_bytes())?;
-    rehearse(alloc, &words(alloc, &[word])?, image, bytes)
+) -> Result<Rehearsal, Fail> {
+    rehearsed_words(rt, alloc, &[word], image, text)
 }
 
 #[test]
@@ -108,7 +122,7 @@ fn sessions_end_as_their_texts_say(rt: HostRuntime) -> Result<(), Fail> {
     for (text, ending, sent) in rows {
         let text = text.replace(alloc, "P", FRONT)?;
         let sent = sent.replace(alloc, "P", FRONT)?;
-        let rehearsal = rehearsed(alloc, "fresh", blank(alloc)?, text.as_str())?;
+        let rehearsal = rehearsed(&rt, alloc, "fresh", blank(alloc)?, text.as_str())?;
         assert_eq!(rt; rehearsal.ending, ending, "{text}");
         assert_eq!(rt; rehearsal.board.sent(), sent.as_bytes(), "{text}");
     }
@@ -119,16 +133,16 @@ fn sessions_end_as_their_texts_say(rt: HostRuntime) -> Result<(), Fail> {
 fn a_later_session_retrieves_what_an_earlier_one_stored(rt: HostRuntime) -> Result<(), Fail> {
     let alloc = rt.alloc();
     let stored = format!(in alloc; "A 000000000010 {FRONT}aa\nA 000000000011 {FRONT}bb\n")?;
-    let first = rehearsed(alloc, "fresh", blank(alloc)?, stored.as_str())?;
+    let first = rehearsed(&rt, alloc, "fresh", blank(alloc)?, stored.as_str())?;
     assert_eq!(rt; first.ending, Ending::Done);
     assert_eq!(rt; first.board.sent().len(), 0);
     let image = image_of(alloc, &first.board)?;
-    let second = rehearsed(alloc, "run", image, "G 000000000012\n")?;
+    let second = rehearsed(&rt, alloc, "run", image, "G 000000000012\n")?;
     assert_eq!(rt; second.ending, Ending::Done);
     let line = format!(in alloc; "1 {FRONT}aa\n")?;
     assert_eq!(rt; second.board.sent(), line.as_bytes());
     let image = image_of(alloc, &second.board)?;
-    let third = rehearsed(alloc, "run", image, "G 000000000013\nG 000000000014\n")?;
+    let third = rehearsed(&rt, alloc, "run", image, "G 000000000013\nG 000000000014\n")?;
     assert_eq!(rt; third.ending, Ending::Done);
     let line = format!(in alloc; "1 {FRONT}bb\n")?;
     assert_eq!(rt; third.board.sent(), line.as_bytes());
@@ -139,7 +153,7 @@ fn a_later_session_retrieves_what_an_earlier_one_stored(rt: HostRuntime) -> Resu
 fn a_blank_device_is_not_run_and_not_listed(rt: HostRuntime) -> Result<(), Fail> {
     let alloc = rt.alloc();
     for word in ["run", "list"] {
-        let rehearsal = rehearsed(alloc, word, blank(alloc)?, "G 000000000011\n")?;
+        let rehearsal = rehearsed(&rt, alloc, word, blank(alloc)?, "G 000000000011\n")?;
         assert_eq!(rt; rehearsal.ending, Ending::NotHeld);
         assert_eq!(rt; rehearsal.board.count(CallKind::Program), 0);
         assert_eq!(rt; rehearsal.board.count(CallKind::Send), 0);
@@ -150,14 +164,14 @@ fn a_blank_device_is_not_run_and_not_listed(rt: HostRuntime) -> Result<(), Fail>
 #[test]
 fn a_formatted_device_is_run_and_listed(rt: HostRuntime) -> Result<(), Fail> {
     let alloc = rt.alloc();
-    let rehearsal = rehearsed(alloc, "format", blank(alloc)?, "no command")?;
+    let rehearsal = rehearsed(&rt, alloc, "format", blank(alloc)?, "no command")?;
     assert_eq!(rt; rehearsal.ending, Ending::Done);
     assert_eq!(rt; rehearsal.board.sent().len(), 0);
     let image = image_of(alloc, &rehearsal.board)?;
-    let rehearsal = rehearsed(alloc, "run", image.clone()?, "G 000000000011\n")?;
+    let rehearsal = rehearsed(&rt, alloc, "run", image.clone()?, "G 000000000011\n")?;
     assert_eq!(rt; rehearsal.ending, Ending::Done);
     assert_eq!(rt; rehearsal.board.sent().len(), 0);
-    let rehearsal = rehearsed(alloc, "list", image, "no command")?;
+    let rehearsal = rehearsed(&rt, alloc, "list", image, "no command")?;
     assert_eq!(rt; rehearsal.ending, Ending::Done);
     assert!(rt;
         rehearsal
@@ -212,8 +226,7 @@ fn other_words_are_refused(rt: HostRuntime) -> Result<(), Fail> {
         &[""],
     ];
     for row in rows {
-        let text = Vec::from_slice(alloc, b"G 000000000011\n")?;
-        let rehearsal = rehearse(alloc, &words(alloc, row)?, blank(alloc)?, text)?;
+        let rehearsal = rehearsed_words(&rt, alloc, row, blank(alloc)?, "G 000000000011\n")?;
         assert_eq!(rt; rehearsal.ending, Ending::BadWords);
     }
     Ok(())
