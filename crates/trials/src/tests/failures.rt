@@ -6,8 +6,9 @@ use super::{MOSTS, fresh, session};
 use crate::half_board::HalfBoard;
 use crate::short_source::ShortSource;
 use board::{Board, Failed};
-use station::{Ending, rehearse, station};
+use station::{Ending, Rehearsal, rehearse, station};
 use std::alloc::{AllocError, Global};
+use std::process::Abort;
 use std::test::Fail;
 
 // How the session ends, and what it sends, where the link breaks within this send.
@@ -26,13 +27,28 @@ fn send_breaks(
     Ok((ending, board.sent().to_vec(alloc)?))
 }
 
+// A blank image of 16 blocks.
+fn blank(alloc: Global) -> Result<Vec<u8>, AllocError> {
+    vec![in alloc; 255u8; 65_536 * 16]
+}
+
+// How a session of this text over an image of 16 blocks ends, which is formatted first.
+fn rehearsed(
+    rt: &impl Abort,
+    alloc: Global,
+    image: Vec<u8>,
+    text: Vec<u8>,
+) -> Result<Rehearsal, Fail> {
+    assert!(rt; image.len() == 1_048_576, "an image of 16 blocks");
+    Ok(rehearse(alloc, &fresh(alloc)?, image, text)?)
+}
+
 #[test]
 fn short_takes_change_no_session(rt: HostRuntime) -> Result<(), Fail> {
     let alloc = rt.alloc();
     let turns = turns(alloc)?;
     let text = text_of(alloc, &turns)?;
-    let image = vec![in alloc; 0xffu8; 16 * 65_536]?;
-    let whole = rehearse(alloc, &fresh(alloc)?, image, text.to_vec(alloc)?)?;
+    let whole = rehearsed(&rt, alloc, blank(alloc)?, text.to_vec(alloc)?)?;
     assert_eq!(rt; whole.ending, Ending::Done);
     assert!(rt; whole.board.sent() == sent_within(alloc, &turns, text.len())?.as_slice());
     for most in MOSTS {
