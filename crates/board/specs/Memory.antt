@@ -13,7 +13,7 @@ use Rattle.board.specs.Stopped.{firm_after}
 
 -- a device of so many blocks that tells all
 abbrev pub telling : ℕ → Device
-telling blocks = record { blocks = blocks; tells_flash = true; tells_link = true }
+telling blocks = record { blocks = blocks; tells_flash = true; tells_link = true; over = [] }
 
 abbrev pub device_of : MemBoard → Device
 device_of board = telling board.history.blocks

@@ -30,6 +30,16 @@ pub record Touches {B : Type 0} (means : BoardMeaning B) (these : ℕ → Bool) 
   pub same : means.device new ≡ means.device old
   pub work : Works 0 programs erases barriers (means.counts old) (means.counts new)
 
+-- The same of calls that read too, at most so many pages.
+pub record ReadsAndTouches {B : Type 0} (means : BoardMeaning B) (these : ℕ → Bool)
+    (reads programs erases barriers : ℕ) (old new : B) : Type 0 where
+  pub others : TellsFlash means old → KeptElsewhere these (means.flash old) (means.flash new)
+  pub leaves : TellsFlash means old
+      → LeavesOnly means old new (IsImage (means.device old).blocks (loosened these (means.flash old)))
+  pub unsent : TellsLink means old → SendsNothing means old new
+  pub same : means.device new ≡ means.device old
+  pub work : Works reads programs erases barriers (means.counts old) (means.counts new)
+
 -- no page
 abbrev pub no_page : ℕ → Bool
 no_page p = false

@@ -3,6 +3,7 @@ use Rattle.std.proofs.Common.{◌≡◌, ◌≢◌, ℕ, true, false, List, [], 
 use Rattle.board.specs.Counts.{Rose}
 use Rattle.board.specs.Meaning.{BoardMeaning, TellsFlash}
 use Rattle.board.specs.Moments.{LeavesOnly}
+use Rattle.board.specs.Touches.{ReadsAndTouches}
 use Rattle.image_table.specs.Standing.{HoldsEitherTable}
 use Rattle.pst_model.specs.Output.{output_line}
 use Rattle.pst_model.specs.Rules.{grant}
@@ -13,7 +14,7 @@ use Rattle.retrieval.specs.Picks.{pick_of}
 use Rattle.retrieval.specs.declared.pick.Pick.{Pick}
 use Rattle.vault.specs.Changing.{journal_pages}
 use Rattle.vault.specs.Fetching.{OnFlash, UnlessFlash}
-use Rattle.vault.specs.Granting.{DiffersAt, DiffersNext, IsGranted, ReadsAndTouches, SendsAnswer, sent_of}
+use Rattle.vault.specs.Granting.{DiffersAt, DiffersNext, IsGranted, SendsAnswer, sent_of}
 use Rattle.vault.specs.Memory.{InMemory}
 use Rattle.vault.specs.Standing.{StandsFor}
 use Rattle.vault.specs.declared.fault.VaultFault.{VaultFault}

@@ -11,7 +11,7 @@ use Rattle.image_board.specs.declared.medium.Medium as medium
 
 module _ {W M : Type 0} {writes : write.Ghosts W} {calls : medium.Ghosts M} where
   abbrev pub device_of : FileBoard W M writes calls → Device
-  device_of board = record { blocks = board.blocks; tells_flash = false; tells_link = false }
+  device_of board = record { blocks = board.blocks; tells_flash = false; tells_link = false; over = [] }
 
   abbrev pub counts_of : FileBoard W M writes calls → Counts
   counts_of board = counts_in board.tally

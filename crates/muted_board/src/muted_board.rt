@@ -16,9 +16,9 @@ use board::{Board, Failed};
 /// programs, erases and barriers are those of the other board, but no call of the link has failed;
 /// its count of sends is of the lines that it took itself.
 ///
-/// The clauses of a trait do not say that a call leaves the reference to the other board in its
-/// place. So a caller that hands this board to a function over any board learns what it means, but
-/// not what the other board is afterwards.
+/// Its device names the reference to the other board and what that one has sent, so no call changes
+/// them: a caller that hands this board to a function over any board knows what the other board is
+/// afterwards.
 #[derive(Drop)]
 pub struct MutedBoard<'a, B: Board> {
     board: &'a mut B,

@@ -1,4 +1,9 @@
-// What no clause says: that the calls of the flash reach the other board, and no line does.
+// That the calls of the flash reach the other board, and no line does; and what a caller knows of the
+// other board afterwards.
+ghost use Rattle.std.specs.Prelude.{◌≡◌, true};
+ghost use Rattle.board.specs.Flash.{firm};
+ghost use Rattle.board.specs.Meaning.{TellsFlash, TellsLink};
+
 use super::*;
 use board::{Board, CallKind, MemBoard};
 use std::test::Fail;
@@ -16,4 +21,23 @@ fn the_flash_is_called_and_the_link_is_not(rt: HostRuntime) -> Result<(), Fail> 
     assert_eq!(rt; inner.count(CallKind::Send), 0);
     assert!(rt; inner.sent().is_empty());
     Ok(())
+}
+
+// Calls the flash of any board.
+fn make_firm<B: Board>(board: &mut B) -> bool
+    ensures same { B.means.device board.new ≡ B.means.device board.old }
+    ensures firm { result ≡ true → TellsFlash B.means board.old → B.means.flash board.new ≡ firm (B.means.flash board.old) }
+{
+    board.barrier().is_ok()
+}
+
+// What a caller knows of the other board behind a function over any board.
+fn make_firm_muted<B: Board>(board: &mut B) -> bool
+    ensures same { B.means.device board.new ≡ B.means.device board.old }
+    ensures firm { result ≡ true → TellsFlash B.means board.old → B.means.flash board.new ≡ firm (B.means.flash board.old) }
+    ensures sent { TellsLink B.means board.old → B.means.sent board.new (B.means.moment board.new)
+        ≡ B.means.sent board.old (B.means.moment board.old) }
+{
+    let mut muted = MutedBoard::new(board);
+    make_firm(&mut muted)
 }

@@ -3,21 +3,20 @@ use Rattle.std.proofs.Common.{ℕ, ◌+◌, ◌≤◌, Bool, List, refl, ◌∙�
 use Rattle.board.specs.Device.{Device}
 use Rattle.board.specs.Flash.{IsImage, loosened}
 use Rattle.board.specs.Meaning.{BoardMeaning, TellsFlash}
-use Rattle.board.specs.Touches.{Touches}
+use Rattle.board.specs.Touches.{ReadsAndTouches, Touches}
 use Rattle.board.proofs.Pages.{image_of_loosened}
 use Rattle.board.proofs.Runs as runs
 use Rattle.board.proofs.Stops.{goes_on, started}
 use Rattle.board.proofs.Touching.{Within, elsewhere_on, image_since, kept_elsewhere, same_elsewhere}
 use Rattle.board.proofs.Works.{tells_too, works_most, works_none, works_on}
 use Rattle.chain_log.specs.Copies.{Copies}
-use Rattle.store_write.specs.Rewrites.{Rewrites}
 
 module _ {B : Type 0} (means : BoardMeaning B) where
   -- before the first call
   pub rewrites_none : (these : ℕ → Bool) (old : B)
       → ((image : ℕ → List ℕ) → TellsFlash means old → means.images old (means.moment old) image
       → IsImage (means.device old).blocks (means.flash old) image)
-      → Rewrites means these 0 0 0 0 old old
+      → ReadsAndTouches means these 0 0 0 0 old old
   rewrites_none these old now = record {
     others = λ told.
         kept_elsewhere (same_elsewhere these (means.flash old) (means.flash old) refl);
@@ -32,9 +31,9 @@ module _ {B : Type 0} (means : BoardMeaning B) where
 
   -- two runs
   pub rewrites_on : {r p e b s q f c : ℕ} (these those : ℕ → Bool) (old mid new : B)
-      → Within those these → Rewrites means these r p e b old mid
-      → Rewrites means those s q f c mid new
-      → Rewrites means these (r + s) (p + q) (e + f) (b + c) old new
+      → Within those these → ReadsAndTouches means these r p e b old mid
+      → ReadsAndTouches means those s q f c mid new
+      → ReadsAndTouches means these (r + s) (p + q) (e + f) (b + c) old new
   rewrites_on these those old mid new within first second = record {
     others = λ told. elsewhere_on these those (means.flash old) (means.flash mid) (means.flash new)
         within (first.others told) (second.others (tells_too first.same told));
@@ -52,8 +51,8 @@ module _ {B : Type 0} (means : BoardMeaning B) where
 
   -- at most as much as is allowed
   pub rewrites_most : {r p e b s q f c : ℕ} {these : ℕ → Bool} {old new : B}
-      → Rewrites means these r p e b old new → r ≤ s → p ≤ q → e ≤ f → b ≤ c
-      → Rewrites means these s q f c old new
+      → ReadsAndTouches means these r p e b old new → r ≤ s → p ≤ q → e ≤ f → b ≤ c
+      → ReadsAndTouches means these s q f c old new
   rewrites_most run reads programs erases barriers = record {
     others = run.others;
     leaves = run.leaves;
@@ -64,7 +63,7 @@ module _ {B : Type 0} (means : BoardMeaning B) where
 
   -- a run that reads nothing
   pub of_touches : {p e b : ℕ} {these : ℕ → Bool} {old new : B}
-      → Touches means these p e b old new → Rewrites means these 0 p e b old new
+      → Touches means these p e b old new → ReadsAndTouches means these 0 p e b old new
   of_touches run = record {
     others = run.others;
     leaves = run.leaves;
@@ -75,7 +74,7 @@ module _ {B : Type 0} (means : BoardMeaning B) where
 
   -- a record that was copied
   pub of_copies : {r p : ℕ} {these : ℕ → Bool} {old new : B}
-      → Copies means these r p old new → Rewrites means these r p 0 0 old new
+      → Copies means these r p old new → ReadsAndTouches means these r p 0 0 old new
   of_copies run = record {
     others = λ told. kept_elsewhere (run.others told);
     leaves = run.leaves;

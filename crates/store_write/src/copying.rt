@@ -12,7 +12,7 @@ ghost use Rattle.time_index.specs.TimeIndex.{pages_of};
 ghost use Rattle.store_write.specs.Moved.{AreCopied, AreSpelled, IsElsewhere, IsInPlace, IsMismatchIn};
 ghost use Rattle.store_write.specs.Moved.{IsPartlyRenewed, IsSpelled, at_place, place_of};
 ghost use Rattle.store_load.specs.Renewing.{renewed_from};
-ghost use Rattle.store_write.specs.Rewrites.{Rewrites};
+ghost use Rattle.board.specs.Touches.{ReadsAndTouches};
 ghost use Rattle.std.specs.Prelude.{Some};
 
 use board::Board;
@@ -104,7 +104,7 @@ pub(crate) fn copy_entries<B: Board>(
         → AreSpelled (B.means.flash board.old).content (index.old.first + from)
         (drop from index.old.entries) → OnMismatch result ⊥ }
     ensures mismatch { IfErr result (IsMismatchIn (drop from index.old.entries)) }
-    ensures rewrites { Rewrites B.means (pages_of_block tail.old.block)
+    ensures rewrites { ReadsAndTouches B.means (pages_of_block tail.old.block)
         (pages_of (drop from index.old.entries)) (pages_of (drop from index.old.entries)) 0 0
         board.old board.new }
     ensures no_fault { UnlessFlash result

@@ -21,7 +21,7 @@ ghost use Rattle.time_index.specs.TimeIndex.{pages_of};
 ghost use Rattle.store_write.specs.Moved.{IsElsewhere, IsInPlace, IsMismatchIn, IsPartlyRenewed};
 ghost use Rattle.store_load.specs.Renewing.{last_position};
 ghost use Rattle.store_write.specs.Renewed.{first_in_last, last_entries, renewed_index, renewed_link};
-ghost use Rattle.store_write.specs.Rewrites.{Rewrites};
+ghost use Rattle.board.specs.Touches.{ReadsAndTouches};
 
 use crate::copying::copy_entries;
 use board::{Board, Failed};
@@ -88,7 +88,7 @@ pub fn renew_block<B: Board>(
     ensures clean { IfOk result (λ used. TellsFlash B.means board.old
         → IsCleanFrom (B.means.flash board.new) fresh used) }
     ensures mismatch { IfErr result (IsMismatchIn (last_entries row.now links.now index.old)) }
-    ensures rewrites { Rewrites B.means (pages_of_block fresh)
+    ensures rewrites { ReadsAndTouches B.means (pages_of_block fresh)
         (pages_of (last_entries row.now links.now index.old))
         (pages_of (last_entries row.now links.now index.old)) 1 1 board.old board.new }
     ensures no_fault { UnlessFlash result

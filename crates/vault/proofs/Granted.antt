@@ -10,7 +10,7 @@ use Rattle.board.specs.Flash.{Flash, IsImage, loosened}
 use Rattle.board.specs.Meaning.{BoardMeaning, TellsFlash}
 use Rattle.board.specs.Moments.{LeavesOnly}
 use Rattle.board.specs.Reads.{ReadsOnly}
-use Rattle.board.specs.Touches.{KeptElsewhere, Touches}
+use Rattle.board.specs.Touches.{KeptElsewhere, ReadsAndTouches, Touches}
 use Rattle.board.proofs.Pages.{image_of_loosened}
 use Rattle.board.proofs.Runs as runs
 use Rattle.board.proofs.Stops as stops
@@ -38,7 +38,7 @@ use Rattle.vault.proofs.Positions.{and_some}
 use Rattle.vault.proofs.Passed.{picked_store}
 use Rattle.vault.proofs.Stopped.{image_holds, still_stands}
 use Rattle.vault.specs.Fetching.{HasPacket, charge_at}
-use Rattle.vault.specs.Granting.{IsChannel, IsGranted, ReadsAndTouches, charge_next, charge_of_pick, sent_of}
+use Rattle.vault.specs.Granting.{IsChannel, IsGranted, charge_next, charge_of_pick, sent_of}
 use Rattle.vault.specs.Memory.{InMemory, IsSound}
 use Rattle.vault.specs.Standing.{StandsFor}
 

@@ -1,10 +1,6 @@
 -- A grant: its packet is read from the flash, and then the row of its store is entered.
 use Rattle.std.specs.Prelude.{◌≡◌, ◌≤◌, ⊤, ℕ, Bool, true, List, [], ◌∷◌, Option, Some, None, Result, Ok, Err, OnOk, is_ok}
-use Rattle.board.specs.Counts.{Works}
-use Rattle.board.specs.Flash.{IsImage, loosened}
-use Rattle.board.specs.Meaning.{BoardMeaning, TellsFlash, TellsLink}
-use Rattle.board.specs.Moments.{LeavesOnly, SendsNothing}
-use Rattle.board.specs.Touches.{KeptElsewhere}
+use Rattle.board.specs.Meaning.{BoardMeaning, TellsFlash}
 use Rattle.image_table.specs.Granting.{put_sent}
 use Rattle.meta_journal.specs.Standing as journals
 use Rattle.pst_model.specs.Rules.{Output, Retrieved, grant}
@@ -21,17 +17,6 @@ use Rattle.vault.specs.Memory.{InMemory, IsSound}
 use Rattle.vault.specs.Standing.{StandsFor}
 use Rattle.vault.specs.declared.fault.VaultFault.{VaultFault}
 use Rattle.vault.specs.declared.fault.VaultFault.TheVariants.{Flash as FlashFault, Mismatch}
-
--- At most so many pages were read, and pages of these were programmed or erased, and no other, with at
--- most so many calls. Nothing was sent.
-pub record ReadsAndTouches {B : Type 0} (means : BoardMeaning B) (these : ℕ → Bool)
-    (reads programs erases barriers : ℕ) (old new : B) : Type 0 where
-  pub others : TellsFlash means old → KeptElsewhere these (means.flash old) (means.flash new)
-  pub leaves : TellsFlash means old
-      → LeavesOnly means old new (IsImage (means.device old).blocks (loosened these (means.flash old)))
-  pub unsent : TellsLink means old → SendsNothing means old new
-  pub same : means.device new ≡ means.device old
-  pub work : Works reads programs erases barriers (means.counts old) (means.counts new)
 
 -- what goes out of a grant: the packet, on the channel of its store
 abbrev pub sent_of : (number channel : ℕ) → (packet : List ℕ) → List Output

@@ -5,7 +5,7 @@ use Rattle.chain_log.specs.Pages.{IsCleanFrom}
 use Rattle.time_index.specs.TimeIndex.{pages_of}
 use Rattle.store_load.specs.Renewing.{renewed_part}
 use Rattle.store_write.specs.Moved.{AreCopiedUpTo}
-use Rattle.store_write.specs.Rewrites.{Rewrites}
+use Rattle.board.specs.Touches.{ReadsAndTouches}
 use Rattle.store_write.proofs.copying.copy_entries.Given as goal
 
 abbrev pub invariant-loop-position : goal.invariant-loop-position
@@ -25,6 +25,6 @@ invariant-loop-position g l =
       copied : TellsFlash means old
           → AreCopiedUpTo many (means.flash old).content (means.flash l.board).content tail.block
           (index.first + l.from) entries;
-      rewrites : Rewrites means (pages_of_block tail.block) pages pages 0 0 old l.board;
+      rewrites : ReadsAndTouches means (pages_of_block tail.block) pages pages 0 0 old l.board;
       no_fault : (means.counts l.board).flash_faults ≡ (means.counts old).flash_faults;
     }
