@@ -22,6 +22,8 @@ module _ {B : Type 0} (inner : BoardMeaning B) where
       name = muted.board.ghost_name;
       tells_link = (inner.device (board_of muted)).tells_link;
       sent = sent_by (board_of muted);
+      sends = (inner.counts (board_of muted)).sends;
+      link_faults = (inner.counts (board_of muted)).link_faults;
     } ∷ (inner.device (board_of muted)).over;
   }
 

@@ -16,7 +16,7 @@ use board::{Board, Failed};
 /// programs, erases and barriers are those of the other board, but no call of the link has failed;
 /// its count of sends is of the lines that it took itself.
 ///
-/// Its device names the reference to the other board and what that one has sent, so no call changes
+/// Its device names the reference to the other board and tells of the link of that one, so no call changes
 /// them: a caller that hands this board to a function over any board knows what the other board is
 /// afterwards.
 #[derive(Drop)]

@@ -37,6 +37,8 @@ fn make_firm_muted<B: Board>(board: &mut B) -> bool
     ensures firm { result ≡ true → TellsFlash B.means board.old → B.means.flash board.new ≡ firm (B.means.flash board.old) }
     ensures sent { TellsLink B.means board.old → B.means.sent board.new (B.means.moment board.new)
         ≡ B.means.sent board.old (B.means.moment board.old) }
+    ensures sends { (B.means.counts board.new).sends ≡ (B.means.counts board.old).sends }
+    ensures link_faults { (B.means.counts board.new).link_faults ≡ (B.means.counts board.old).link_faults }
 {
     let mut muted = MutedBoard::new(board);
     make_firm(&mut muted)
