@@ -6,7 +6,7 @@ use Rattle.std.specs.Prelude.{if◌then◌else◌}
 use Rattle.control_defs.specs.declared.instructions.Instruction.{Instruction}
 use Rattle.control_defs.specs.declared.instructions.Instruction.TheVariants.{Configuration, ForwardReport, ReportTypes, Status, Summary}
 use Rattle.pst_model.proofs.Counted.{count_behind-more, replies_from-append}
-use Rattle.pst_model.specs.Answers.{Carried, answer_carried, carry_out, completed, verdicts_before}
+use Rattle.pst_model.specs.Answers.{answer_carried, carry_out, completed, verdicts_before}
 use Rattle.pst_model.specs.Contents.{content_report}
 use Rattle.pst_model.specs.Laws.{is_reply, replies_in}
 use Rattle.pst_model.specs.Replies.{replies_from, reply}

@@ -1,5 +1,5 @@
 -- What an arriving packet makes durable, and what goes out of it.
-use Rattle.std.proofs.Common.{◌≡◌, ℕ, Bool, true, false, List, [], ◌∷◌, ◌++◌, map, Err, ap, sym, ◌∙◌}
+use Rattle.std.proofs.Common.{◌≡◌, ℕ, Bool, true, false, List, [], ◌∷◌, ◌++◌, map, Err}
 use Rattle.std.specs.Prelude.{◌==◌, ◌&&◌, not, max, if◌then◌else◌, flat_map}
 use Rattle.board.specs.Counts.{Rose}
 use Rattle.board.specs.Meaning.{BoardMeaning, TellsFlash, TellsLink}
@@ -8,9 +8,8 @@ use Rattle.control_defs.specs.Patterns.{any_covers}
 use Rattle.image_table.specs.Standing.{HoldsEitherTable}
 use Rattle.pst_model.specs.Arrivals.{arrive, forwarded_on, offer, offer_report}
 use Rattle.pst_model.specs.Replies.{behind_outputs, replies_from}
-use Rattle.pst_model.specs.Reports.{Report}
-use Rattle.pst_model.specs.Rules.{Output, Step}
-use Rattle.pst_model.specs.Table.{Store, Stored, Table}
+use Rattle.pst_model.specs.Rules.{Step}
+use Rattle.pst_model.specs.Table.{Table}
 use Rattle.pus_header.specs.Keys.{key_of}
 use Rattle.space_packet.specs.Packet.{apid_of}
 use Rattle.store_put.specs.Refusals.{report_of}

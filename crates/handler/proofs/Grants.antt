@@ -1,5 +1,5 @@
 -- What a grant makes durable, and what it sends.
-use Rattle.std.proofs.Common.{◌≡◌, ◌≢◌, ℕ, true, false, List, [], ◌∷◌, length, length-append, Option, Some, None, Err, refl, ap, arith}
+use Rattle.std.proofs.Common.{◌≡◌, ◌≢◌, ℕ, true, false, List, [], length, length-append, Option, Some, None, Err, refl, ap, arith}
 use Rattle.board.specs.Counts.{Rose}
 use Rattle.board.specs.Meaning.{BoardMeaning, TellsFlash}
 use Rattle.board.specs.Moments.{LeavesOnly}

@@ -1,11 +1,11 @@
 -- A command that is made durable quietly, and then sends its lines.
-use Rattle.std.proofs.Common.{◌≡◌, ◌≢◌, ◌≤◌, inl, inr, ℕ, ◌+◌, Bool, true, false, List, [], ◌++◌, length, Ok, Err, refl, sym, ◌∙◌, ap, subst, arith}
+use Rattle.std.proofs.Common.{◌≡◌, ◌≢◌, ◌≤◌, inl, inr, ℕ, ◌+◌, true, false, List, ◌++◌, length, Ok, Err, refl, sym, ◌∙◌, ap, subst, arith}
 use Rattle.std.specs.Prelude.{Result}
 use Rattle.board.specs.Counts.{Counts, Rose, RoseBy, Sends, Works}
 use Rattle.board.specs.Device.{Device}
 use Rattle.board.specs.Flash.{Flash, IsImage}
 use Rattle.board.specs.Meaning.{BoardMeaning, TellsFlash, TellsLink}
-use Rattle.board.specs.Moments.{GainsFront, LeavesOnly, SendsNothing, SendsOnly, Shows}
+use Rattle.board.specs.Moments.{GainsFront, LeavesOnly, SendsNothing, SendsOnly}
 use Rattle.board.specs.Reads.{FlashStays}
 use Rattle.board.proofs.Runs as sendings
 use Rattle.board.proofs.Shown.{shows_both, shows_on}
@@ -21,7 +21,7 @@ use Rattle.report_lines.specs.declared.sent.Sent.{Sent}
 use Rattle.vault.proofs.Stopped.{image_holds}
 use Rattle.vault.specs.Memory.{InMemory, IsSound}
 use Rattle.vault.specs.Standing.{StandsFor}
-use Rattle.handler.specs.Carrying.{Answers, BreaksOff, CarriesOut, GoesInStep, HasSent, IsBoardOf, IsInStep, LeavesEither, SendsFront, handler_of}
+use Rattle.handler.specs.Carrying.{Answers, CarriesOut, GoesInStep, HasSent, IsBoardOf, IsInStep, LeavesEither, SendsFront, handler_of}
 use Rattle.handler.specs.declared.fault.HandlerFault.{HandlerFault}
 use Rattle.handler.specs.declared.fault.HandlerFault.TheVariants as faults
 use Rattle.handler.specs.Working.{WorksWithin}

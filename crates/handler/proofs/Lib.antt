@@ -6,3 +6,4 @@ pub mod Asked
 pub mod RefusedPuts
 pub mod Arrived
 pub mod Handlers
+pub mod Retrieved

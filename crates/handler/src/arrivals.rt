@@ -1,12 +1,17 @@
 // A packet arrives: it is taken in durably, and then its lines are sent, which are the packet itself, if
 // it is forwarded, and a report for each store that refused it.
-ghost use Rattle.std.specs.Prelude.{◌≡◌, ◌≤◌, ◌<◌, ◌^◌, ◌*◌, ◌∷◌, [], ℕ, if◌then◌else◌, is_ok, length, true, IfOk, OnOk, OnErr};
+ghost use Rattle.std.specs.Prelude.{◌≡◌, ◌≤◌, ◌<◌, ◌^◌, ◌+◌, ◌*◌, ◌==◌, ◌∷◌, [], ℕ, if◌then◌else◌, is_ok, length, true, IfOk, OnOk, OnErr};
 ghost use Rattle.handler.specs.Arriving.{forwarded_as, lines_by, refusals_from};
 ghost use Rattle.handler.specs.Carrying.{Answers, IsBoardOf, IsReady, handler_of};
+ghost use Rattle.handler.specs.Working.{ArrivesWithin, WorksWithin};
 ghost use Rattle.pst_model.specs.Arrivals.{arrive};
 ghost use Rattle.report_lines.specs.Counting.{IsCountOf};
 ghost use Rattle.report_lines.specs.Sending.{BreaksIn, SendsLines};
+ghost use Rattle.space_packet.specs.Packet.{apid_of};
 ghost use Rattle.space_packet.specs.View.{octets_of};
+ghost use Rattle.vault.specs.Arriving.{IsFreshenedBy};
+ghost use Rattle.vault.specs.Changing.{RoomAfter, if_short};
+ghost use Rattle.vault.specs.Storing.{AreFreshFor};
 
 use crate::fault::{HandlerFault, fault_of};
 use crate::replies::count_after;
@@ -128,6 +133,15 @@ pub(crate) fn take_in<B: Board>(
         (handler_of vault.new (is_ok result))
         (λ number table. arrive number moment (octets_of packet.entry) table) result }
     ensures ready { OnOk result (IsReady vault.new) }
+    ensures work { AreFreshFor (octets_of packet.entry) vault.old
+        → ArrivesWithin B.means board.old board.new vault.old (octets_of packet.entry) }
+    ensures idle_work { (apid_of (octets_of packet.entry) == 2047) ≡ true
+        → WorksWithin 0 (if_short vault.old.journal.room 85 + 2) (if_short vault.old.journal.room 7)
+        (if_short vault.old.journal.room 13 + 2)
+        (B.means.counts board.old) (B.means.counts board.new) }
+    ensures room { OnOk result (AreFreshFor (octets_of packet.entry) vault.old
+        → RoomAfter 7 vault.old.journal.room vault.new.journal.room) }
+    ensures stale { OnOk result (IsFreshenedBy (octets_of packet.entry) vault.old vault.new) }
 {
     let outcome = match vault.store(board, moment, packet) {
         Ok(outcome) => outcome,

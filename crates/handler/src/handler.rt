@@ -2,15 +2,23 @@
 //
 // Order: a command is made durable first, and only then are its lines sent. So what was sent survives a
 // power loss.
-ghost use Rattle.std.specs.Prelude.{◌≡◌, ◌<◌, ◌^◌, ◌+◌, [], Ok, true, IfOk};
+ghost use Rattle.std.specs.Prelude.{◌≡◌, ◌≤◌, ◌<◌, ◌^◌, ◌+◌, ◌==◌, ℕ, [], None, Ok, Some, true, IfOk, OnOk};
 ghost use Rattle.handler.specs.Carrying.{Answers, IsBoardOf};
-ghost use Rattle.handler.specs.Working.{WorksWithin};
+ghost use Rattle.handler.specs.Working.{ArrivesWithin, WorksWithin, pages_retrieved};
 ghost use Rattle.pst_model.specs.Answers.{answer};
 ghost use Rattle.pst_model.specs.Arrivals.{arrive};
 ghost use Rattle.pst_model.specs.Rules.{grant};
+ghost use Rattle.pst_model.specs.Table.{Table};
+ghost use Rattle.retrieval.specs.Picks.{pick_of};
+ghost use Rattle.retrieval.specs.declared.pick.Pick.{Pick};
+ghost use Rattle.space_packet.specs.Packet.{apid_of};
 ghost use Rattle.space_packet.specs.View.{octets_of};
-ghost use Rattle.vault.specs.Changing.{if_short};
+ghost use Rattle.vault.specs.Arriving.{IsFreshenedBy};
+ghost use Rattle.vault.specs.Changing.{RoomAfter, if_short};
 ghost use Rattle.vault.specs.Granting.{charge_next};
+ghost use Rattle.vault.specs.Memory.{IsSound};
+ghost use Rattle.vault.specs.Standing.{StandsFor};
+ghost use Rattle.vault.specs.Storing.{AreFreshFor};
 
 use crate::arrivals::take_in;
 use crate::fault::HandlerFault;
@@ -78,8 +86,12 @@ impl Handler {
         requires is_open { self.old.is_open ≡ true }
         requires moment { moment < 2 ^ 48 }
         requires board { IsBoardOf B.means self.old.vault board.old }
-        ensures { Answers B.means board.old board.new self.old self.new
+        ensures answers { Answers B.means board.old board.new self.old self.new
             (λ number table. record { table = table; outputs = [] }) result }
+        ensures ok { result
+            ≡ Ok (record { forwarded = 0; replies = 0; retrieved = 0; octets = 0 }) }
+        ensures same { self.new ≡ self.old }
+        ensures board { board.new ≡ board.old }
     {
         match self.vault.idle(board) {
             Ok(()) => Ok(Sent::default()),
@@ -101,6 +113,15 @@ impl Handler {
             (if_short self.old.vault.journal.room 85 + 2) (if_short self.old.vault.journal.room 7)
             (if_short self.old.vault.journal.room 13 + 2)
             (B.means.counts board.old) (B.means.counts board.new) }
+        ensures reads { (table : Table) (number : ℕ)
+            → StandsFor self.old.vault (B.means.flash board.old) table
+            → charge_next self.old.vault ≤ pages_retrieved (grant number table).outputs }
+        ensures room { OnOk result ((pick : Pick)
+            → pick_of self.old.vault.directory.stores ≡ Some pick
+            → RoomAfter 2 self.old.vault.journal.room self.new.vault.journal.room) }
+        ensures nothing { pick_of self.old.vault.directory.stores ≡ None
+            → (board.new ≡ board.old) × (self.new.vault ≡ self.old.vault) }
+        ensures lasts { self.new.vault.lasts ≡ self.old.vault.lasts }
     {
         let result = send_next(&mut self.vault, &mut self.buffers, board);
         self.is_open = result.is_ok();
@@ -111,7 +132,7 @@ impl Handler {
     /// count of the reports are durable before the first line is sent. Then it is forwarded on channel 0
     /// if a forward pattern covers it, and each refusal that has to be told is reported. It takes no
     /// memory. If less than 21 pages of the journal are room, the journal's other half counts
-    /// afterwards.
+    /// afterwards. It reads nothing of the flash if no store has to be renewed first.
     pub fn arrival<B: Board>(
         &mut self,
         board: &mut B,
@@ -121,8 +142,18 @@ impl Handler {
         requires is_open { self.old.is_open ≡ true }
         requires moment { moment < 2 ^ 48 }
         requires board { IsBoardOf B.means self.old.vault board.old }
-        ensures { Answers B.means board.old board.new self.old self.new
+        ensures answers { Answers B.means board.old board.new self.old self.new
             (λ number table. arrive number moment (octets_of packet.entry) table) result }
+        ensures work { AreFreshFor (octets_of packet.entry) self.old.vault
+            → ArrivesWithin B.means board.old board.new self.old.vault (octets_of packet.entry) }
+        ensures idle_work { (apid_of (octets_of packet.entry) == 2047) ≡ true
+            → WorksWithin 0 (if_short self.old.vault.journal.room 85 + 2)
+            (if_short self.old.vault.journal.room 7) (if_short self.old.vault.journal.room 13 + 2)
+            (B.means.counts board.old) (B.means.counts board.new) }
+        ensures room { OnOk result (AreFreshFor (octets_of packet.entry) self.old.vault
+            → RoomAfter 7 self.old.vault.journal.room self.new.vault.journal.room) }
+        ensures stale { OnOk result
+            (IsFreshenedBy (octets_of packet.entry) self.old.vault self.new.vault) }
     {
         let result = take_in(&mut self.vault, &mut self.buffers, board, moment, packet);
         self.is_open = result.is_ok();
@@ -164,6 +195,7 @@ impl Handler {
         ensures done { result ≡ Ok tt }
         ensures same { self.new ≡ self.old }
         ensures board { board.new ≡ board.old }
+        ensures sound { IsSound self.old.vault }
     {
         match self.vault.flush(board) {
             Ok(()) => Ok(()),

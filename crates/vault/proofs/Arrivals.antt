@@ -1,21 +1,19 @@
 -- A packet that arrives: an idle one changes the clock, and another one is put behind the renewals that it needs.
-use Rattle.std.proofs.Common.{◌≡◌, ◌==◌, ◌≤◌, ◌<◌, ◌+◌, ◌*◌, ◌^◌, inl, ℕ, Bool, true, List, [], Some, refl, sym, ◌∙◌, ap, subst, arith}
-use Rattle.std.specs.Prelude.{if◌then◌else◌, max}
+use Rattle.std.proofs.Common.{◌≡◌, ◌==◌, ◌≤◌, ◌<◌, ℕ, Bool, true, List, [], Some, sym, ◌∙◌, ap, subst, arith}
+use Rattle.std.specs.Prelude.{max}
 use Rattle.std.proofs.lemmas.Bool.{cond-true}
-use Rattle.std.proofs.lemmas.Option.{same_Some}
 use Rattle.board.specs.Flash.{Flash}
 use Rattle.board.specs.Meaning.{BoardMeaning}
 use Rattle.board.proofs.Works.{works_most, works_none}
 use Rattle.image_table.proofs.Frames.{table_loads}
 use Rattle.image_table.proofs.Puts.{clock_goes}
-use Rattle.image_table.specs.Table.{table_by}
 use Rattle.pst_model.specs.Arrivals.{arrive, forwarded_on, offer}
 use Rattle.pst_model.specs.Replies.{behind_outputs}
 use Rattle.pst_model.specs.Rules.{Step}
 use Rattle.pst_model.specs.Table.{Table}
 use Rattle.put_laws.proofs.Clocks.{clock_applies}
 use Rattle.space_packet.specs.Packet.{apid_of}
-use Rattle.store_directory.specs.Changes.{Clock, apply}
+use Rattle.store_directory.specs.Changes.{Clock}
 use Rattle.store_directory.specs.Directory.{Directory}
 use Rattle.vault.proofs.Entered.{here}
 use Rattle.vault.proofs.SameRecords.{keep_same}

@@ -1,25 +1,22 @@
 -- A packet that arrives, before it is offered to the first store: the clock rose, and the reports are counted.
 use Rattle.std.proofs.Common.{◌≡◌, ◌≤◌, ◌<◌, ◌+◌, ◌%◌, ◌^◌, ℕ, true, false, List, [], ◌∷◌, All, length, map, Some, refl, sym, ◌∙◌, ap, subst, arith}
-use Rattle.std.specs.Prelude.{flat_map, slice_get}
+use Rattle.std.specs.Prelude.{flat_map}
 use Rattle.std.proofs.lemmas.List.{length-map}
 use Rattle.std.proofs.lemmas.List.Elements.{All-cons, All-nil}
 use Rattle.std.proofs.lemmas.Option.{same_Some}
 use Rattle.block_pool.specs.Blocks.{IsPool}
 use Rattle.board.specs.Flash.{Flash}
-use Rattle.image_table.specs.Table.{in_records}
 use Rattle.pst_model.specs.Arrivals.{offer_report}
-use Rattle.pst_model.specs.Reports.{Report}
 use Rattle.pst_model.specs.Table.{Store, Stored, Table}
 use Rattle.put_laws.proofs.Clocks.{begins, clock_applies}
 use Rattle.put_laws.proofs.Indexed.{table_indexed}
 use Rattle.put_laws.proofs.PlacesOn.{clock_places}
-use Rattle.put_laws.specs.Walks.{HasOffered, clock_of, reports_behind}
-use Rattle.store_directory.specs.Changes.{Change, Clock, apply, apply_all}
+use Rattle.put_laws.specs.Walks.{HasOffered, reports_behind}
+use Rattle.store_directory.specs.Changes.{Change, Clock, apply_all}
 use Rattle.store_directory.specs.Directory.{Directory, IsDirectory, Listed}
 use Rattle.store_directory.specs.Entries.{entry_octets}
 use Rattle.store_directory.specs.Kept.{Kept}
 use Rattle.store_policy.specs.Shown.{AreShown, IsTableShown}
-use Rattle.store_policy.specs.declared.view.View.{View}
 use Rattle.store_put.proofs.Refused.{reported}
 use Rattle.store_put.proofs.Walked.{walking_begins}
 use Rattle.store_put.specs.Refusals.{IsFilled, refusals_of, report_of}

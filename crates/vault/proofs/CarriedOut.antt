@@ -1,5 +1,5 @@
 -- The instructions of a request in memory, one after another.
-use Rattle.std.proofs.Common.{◌≡◌, ℕ, suc, Bool, true, false, ◌+◌, ◌*◌, ◌≤◌, List, [], ◌∷◌, ◌++◌, All, Option, None, Some, Result, Ok, Err, append-nil, length, length-append, map, refl, sym, ◌∙◌, ap, subst, arith}
+use Rattle.std.proofs.Common.{◌≡◌, ℕ, suc, Bool, true, false, ◌+◌, ◌*◌, ◌≤◌, List, [], ◌∷◌, ◌++◌, All, Option, None, Some, Result, Ok, Err, append-nil, length, length-append, refl, sym, ◌∙◌, ap, subst, arith}
 use Rattle.std.specs.Prelude.{if◌then◌else◌, slice_get}
 use Rattle.std.proofs.lemmas.Grind.{flat_map-append}
 use Rattle.std.proofs.lemmas.List.{map-append}
@@ -15,7 +15,7 @@ use Rattle.request_laws.specs.Counting.{CanBeCarried}
 use Rattle.request_laws.proofs.Holding.{shown_so_far}
 use Rattle.request_laws.proofs.Tables.{of_shown, one_shown}
 use Rattle.request_laws.proofs.Walking.{asks, begins, effects, fails}
-use Rattle.store_directory.specs.Changes.{Change, apply}
+use Rattle.store_directory.specs.Changes.{Change}
 use Rattle.store_directory.specs.Directory.{Directory, IsDirectory, Listed}
 use Rattle.store_directory.specs.Entries.{change_octets, entry_octets}
 use Rattle.store_policy.specs.Agreement.{Agrees}

@@ -1,6 +1,5 @@
 -- A packet was put into each store that takes it: while its entry is added, and behind it.
-use Rattle.std.proofs.Common.{◌≡◌, inl, inr, ◌≤◌, ◌+◌, ◌*◌, ◌&&◌, ℕ, Bool, true, false, List, [], ◌∷◌, length, map, Some, refl, sym, ◌∙◌, ap, subst, arith}
-use Rattle.std.specs.Prelude.{nat_le, nat_lt}
+use Rattle.std.proofs.Common.{◌≡◌, inl, inr, ◌≤◌, ◌+◌, ℕ, true, List, [], ◌∷◌, length, map, Some, sym, ◌∙◌, ap, subst, arith}
 use Rattle.std.specs.List.{list_all}
 use Rattle.std.proofs.lemmas.Bool.{cases_lt, false≢true}
 use Rattle.std.proofs.lemmas.Option.{same_Some}
@@ -13,7 +12,7 @@ use Rattle.image_table.proofs.DataPages.{data_page}
 use Rattle.image_table.proofs.Frames.{data_links, records_kept, shared_links, table_loads}
 use Rattle.image_table.proofs.Standing.{table_here}
 use Rattle.image_table.specs.Standing.{HoldsEitherTable}
-use Rattle.image_table.specs.Table.{in_records, store_of, table_by}
+use Rattle.image_table.specs.Table.{store_of, table_by}
 use Rattle.meta_journal.specs.Journals.{HoldsEither}
 use Rattle.meta_journal.specs.Standing as journals
 use Rattle.pst_model.specs.Table.{Store, Stored, Table}
@@ -23,7 +22,6 @@ use Rattle.put_laws.specs.Indexes.{AreAllIndexed}
 use Rattle.put_laws.specs.Walks.{table_at}
 use Rattle.store_directory.specs.Changes.{Change}
 use Rattle.store_directory.specs.Directory.{Directory, Listed, reserved_by}
-use Rattle.store_directory.specs.Entries.{entry_octets}
 use Rattle.store_directory.specs.Folds.{fold_entry}
 use Rattle.store_directory.specs.Kept.{Kept}
 use Rattle.store_load.specs.Claims.{is_data, may_share}

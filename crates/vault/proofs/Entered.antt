@@ -6,8 +6,6 @@ use Rattle.std.proofs.lemmas.Bool.{cases_lt, false≢true}
 use Rattle.std.proofs.lemmas.Option.{none-some, same_Some}
 use Rattle.block_pool.specs.Blocks.{IsPool, is_free, is_ready}
 use Rattle.board.specs.Flash.{Flash, IsContent, IsImage, loosened}
-use Rattle.board.specs.Meaning.{BoardMeaning}
-use Rattle.board.specs.Moments.{LeavesOnly}
 use Rattle.board.specs.Touches.{KeptElsewhere}
 use Rattle.board.proofs.Pages.{elsewhere}
 use Rattle.chain_log.specs.Pages.{IsCleanFrom}

@@ -1,5 +1,5 @@
 -- Which last blocks are stale behind an arriving packet.
-use Rattle.std.proofs.Common.{◌≡◌, ◌==◌, ◌<◌, ℕ, zero, suc, Bool, true, false, List, [], ◌∷◌, length, slice_set, Some, refl, sym, ◌∙◌, ap, subst, arith}
+use Rattle.std.proofs.Common.{◌≡◌, ◌==◌, ℕ, zero, suc, Bool, true, false, List, [], ◌∷◌, length, slice_set, Some, refl, sym, ◌∙◌, ap, subst, arith}
 use Rattle.std.specs.Prelude.{slice_get}
 use Rattle.std.proofs.lemmas.Bool.{false≢true}
 use Rattle.std.proofs.lemmas.Option.{none-some, same_Some, slice_get_within}
@@ -7,8 +7,7 @@ use Rattle.pst_model.specs.Table.{Store, Table}
 use Rattle.request_laws.proofs.Tables.{one_shown}
 use Rattle.space_packet.specs.Packet.{apid_of}
 use Rattle.store_directory.specs.Directory.{Listed}
-use Rattle.store_directory.specs.declared.row.Row.{Row}
-use Rattle.store_policy.specs.Shown.{AreShown, IsShown, IsStoreShown, IsTableShown}
+use Rattle.store_policy.specs.Shown.{AreShown, IsStoreShown, IsTableShown}
 use Rattle.store_policy.specs.declared.view.View.{View}
 use Rattle.store_put.proofs.Refused.{shown_at}
 use Rattle.store_put.proofs.Unlinked.{got_set}

@@ -38,6 +38,7 @@ use Rattle.vault.proofs.Positions.{and_some}
 use Rattle.vault.proofs.Passed.{picked_store}
 use Rattle.vault.proofs.Stopped.{image_holds, still_stands}
 use Rattle.vault.specs.Fetching.{HasPacket, charge_at}
+use Rattle.vault.specs.Changing.{RoomAfter}
 use Rattle.vault.specs.Granting.{IsChannel, IsGranted, charge_next, charge_of_pick, sent_of}
 use Rattle.vault.specs.Memory.{InMemory, IsSound}
 use Rattle.vault.specs.Standing.{StandsFor}
@@ -132,6 +133,7 @@ module _ {B : Type 0} (means : BoardMeaning B) (vault : InMemory) (old : B) (sou
     others = λ i. record vault { is_open = open_is i };
     none = λ _. refl;
     directory = λ pick row picked here _. absurd (none-some pick (sym none ∙ picked));
+    room = λ pick picked _. absurd (none-some pick (sym none ∙ picked));
     sound = λ _. sound;
     journal = λ _. journal;
     stands = λ _ told table number stands.
@@ -143,11 +145,12 @@ module _ {B : Type 0} (means : BoardMeaning B) (vault : InMemory) (old : B) (sou
       → ReadsOnly means n old mid → loaded ≡ record vault { held = loaded.held; is_open = true }
       → passed ≡ record loaded { directory = passed.directory; journal = passed.journal; is_open = true }
       → ((row : Row) → IsRowAt loaded.directory.stores pick.at row → apply loaded.directory.directory (put_sent pick row) ≡ Some passed.directory.directory)
+      → RoomAfter 2 loaded.journal.room passed.journal.room
       → IsSound passed → (TellsFlash means mid → journals.StandsFor passed.journal (means.flash new))
       → (TellsFlash means mid → (table : Table) (number : ℕ) → StandsFor loaded (means.flash mid) table
       → StandsFor passed (means.flash new) (grant number table).table)
       → IsGranted means old new vault passed true
-  granted_by mid new loaded passed pick picked reads is others directory sound_passed journal stands =
+  granted_by mid new loaded passed pick picked reads is others directory room sound_passed journal stands =
       let held : loaded.held ≡ passed.held = sym (ap (λ (v : InMemory). v.held) others) in
       record {
         others =
@@ -162,6 +165,7 @@ module _ {B : Type 0} (means : BoardMeaning B) (vault : InMemory) (old : B) (sou
             ∙ directory row
             (subst (λ (d : Kept). IsRowAt d.stores pick.at row) (sym kept)
             (subst (λ (p : Pick). IsRowAt vault.directory.stores p.at row) same here));
+        room = λ other found _. subst (λ (v : InMemory). RoomAfter 2 v.journal.room passed.journal.room) is room;
         sound = λ _. sound_passed;
         journal = λ _ told. journal (tells_too reads.same told);
         stands = λ _ told table number was.

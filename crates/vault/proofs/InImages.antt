@@ -1,5 +1,5 @@
 -- What the images of a change of the directory hold beside it.
-use Rattle.std.proofs.Common.{◌≡◌, inl, inr, ℕ, Bool, false, List, ◌∙◌, ap, refl}
+use Rattle.std.proofs.Common.{◌≡◌, inl, inr, ℕ, Bool, List, ◌∙◌, ap}
 use Rattle.board.specs.Flash.{Flash, IsImage, loosened}
 use Rattle.board.specs.Meaning.{BoardMeaning}
 use Rattle.board.specs.Moments.{LeavesOnly}

@@ -1,5 +1,5 @@
 -- Stores behind a request: they keep their records.
-use Rattle.std.proofs.Common.{◌≡◌, ℕ, ◌≤◌, List, [], ◌∷◌, All, sym, subst, arith}
+use Rattle.std.proofs.Common.{◌≡◌, ℕ, List, [], ◌∷◌, All, arith}
 use Rattle.std.proofs.lemmas.List.Elements.{All-cons, All-nil}
 use Rattle.request_laws.specs.Changing.{AllKeepRecords, BeginsWell}
 use Rattle.store_directory.specs.Directory.{Directory, Listed}

@@ -58,3 +58,4 @@ pub mod Swapping
 pub mod OffersLast
 pub mod OffersNew
 pub mod Unlinked
+pub mod RoomAfters

@@ -1,5 +1,5 @@
 -- A packet on its way along the stores: what so many of them take, and what holds before the first one.
-use Rattle.std.proofs.Common.{◌≡◌, ◌≤◌, ◌<◌, ◌+◌, ◌*◌, ℕ, zero, suc, false, List, [], ◌∷◌, length, take, drop, refl, sym, ap, subst, arith}
+use Rattle.std.proofs.Common.{◌≡◌, ◌≤◌, ◌<◌, ℕ, zero, suc, false, List, [], ◌∷◌, length, take, refl, sym, ap, subst, arith}
 use Rattle.std.specs.Prelude.{Err, Ok, OnErr, Result}
 use Rattle.std.proofs.lemmas.List.{length-drop}
 use Rattle.std.proofs.lemmas.Nat.{mul-le}

@@ -1,9 +1,9 @@
 -- What an arriving packet did, and what holds however its call was answered.
-use Rattle.std.proofs.Common.{◌≡◌, ◌==◌, ℕ, Bool, true, false, List, [], map, Result, Ok, Err, sym, ◌∙◌, ap}
+use Rattle.std.proofs.Common.{◌≡◌, ◌==◌, ℕ, Bool, true, false, List, [], map, Result, Ok, Err, ◌∙◌, ap}
 use Rattle.std.specs.Prelude.{IfErr, OnErr, OnOk}
 use Rattle.std.proofs.lemmas.Bool.{false≢true}
 use Rattle.control_defs.specs.Patterns.{any_covers}
-use Rattle.pst_model.specs.Table.{Store, Table}
+use Rattle.pst_model.specs.Table.{Table}
 use Rattle.pus_header.specs.Keys.{key_of}
 use Rattle.space_packet.specs.Packet.{apid_of}
 use Rattle.store_put.proofs.Refused.{reported}

@@ -13,9 +13,9 @@ use Rattle.meta_journal.proofs.FirstDirectory.{front_written}
 use Rattle.pst_model.specs.Answers.{Carried, carry_out}
 use Rattle.pst_model.specs.Reports.{count_behind}
 use Rattle.pst_model.specs.Table.{Table}
-use Rattle.request_laws.specs.Carrying.{HasEnded, carried_up_to, count_of}
+use Rattle.request_laws.specs.Carrying.{HasEnded, count_of}
 use Rattle.request_laws.specs.Changing.{AllKeepRecords}
-use Rattle.request_laws.specs.Counting.{CanBeCarried, reports_made, table_behind}
+use Rattle.request_laws.specs.Counting.{CanBeCarried, reports_made}
 use Rattle.request_laws.proofs.Ends.{ends}
 use Rattle.request_laws.proofs.Holding.{held_behind, shown_behind}
 use Rattle.request_laws.proofs.Stepping.{all_of}
@@ -23,12 +23,11 @@ use Rattle.store_directory.specs.Changes.{Change, apply}
 use Rattle.store_directory.specs.Directory.{Directory, IsDirectory}
 use Rattle.store_directory.specs.Entries.{change_octets, entry_octets}
 use Rattle.store_directory.specs.Folds.{fold_entry}
-use Rattle.store_policy.specs.Shown.{AreAllTogether, IsTableShown}
+use Rattle.store_policy.specs.Shown.{AreAllTogether}
 use Rattle.store_policy.specs.declared.refusal.Refusal.{Refusal}
-use Rattle.store_policy.specs.declared.view.View.{View}
 use Rattle.time_index.specs.TimeIndex.{TimeIndex}
 use Rattle.vault.proofs.CarriedOut.{carried_records, some_table}
-use Rattle.vault.specs.Requests.{AreCarriedOut, IsPrepared, IsViewWith, OfShown, failure_of}
+use Rattle.vault.specs.Requests.{AreCarriedOut, IsPrepared, OfShown, failure_of}
 
 -- the change that counts reports fits
 pub count_made : (d : Directory) (made : ℕ) → apply d (counted made d) ≡ Some (record d { reports = count_behind d.reports made })

@@ -1,9 +1,8 @@
 -- A packet that was put into each store that takes it, from the room in the journal to the commit.
-use Rattle.std.proofs.Common.{◌≡◌, inl, inr, ◌≤◌, ◌+◌, ◌*◌, ◌==◌, ℕ, false, true, List, length, take, Some, refl, sym, ◌∙◌, ap, subst, arith}
+use Rattle.std.proofs.Common.{◌≡◌, inl, ◌≤◌, ◌+◌, ◌*◌, ◌==◌, ℕ, false, true, List, length, take, Some, refl, sym, ◌∙◌, ap, subst, arith}
 use Rattle.std.specs.Prelude.{Err, Ok, OnOk, Result, max}
 use Rattle.std.proofs.lemmas.Nat.{mul-le}
 use Rattle.board.specs.Counts.{Works}
-use Rattle.board.specs.Device.{Device}
 use Rattle.board.specs.Meaning.{BoardMeaning, TellsFlash, TellsLink}
 use Rattle.board.specs.Moments.{LeavesOnly, SendsNothing}
 use Rattle.board.specs.Touches.{Touches}
@@ -14,7 +13,7 @@ use Rattle.image_table.specs.Standing.{HoldsEitherTable, HoldsTable}
 use Rattle.image_table.specs.Table.{table_by}
 use Rattle.meta_journal.specs.Standing as journals
 use Rattle.pst_model.specs.Arrivals.{arrive}
-use Rattle.pst_model.specs.Table.{Store, Stored, Table}
+use Rattle.pst_model.specs.Table.{Stored, Table}
 use Rattle.put_laws.proofs.Ending.{ends}
 use Rattle.put_laws.specs.Walks.{HasOffered}
 use Rattle.space_packet.specs.Charge.{charge_of}

@@ -1,13 +1,13 @@
 -- How runs go on that renew last blocks.
-use Rattle.std.proofs.Common.{◌≡◌, ℕ, true, List, Some, Result, Ok, Err, OnOk, OnErr, refl, sym, ◌∙◌, ap, subst}
+use Rattle.std.proofs.Common.{◌≡◌, ℕ, true, List, Result, Ok, Err, OnOk, OnErr, refl, sym, ◌∙◌, ap, subst}
 use Rattle.std.specs.Prelude.{⊤, IfErr, is_ok}
 use Rattle.std.specs.Result.{IsErr}
 use Rattle.std.proofs.lemmas.Bool.{false≢true}
 use Rattle.board.specs.Counts.{Rose}
 use Rattle.board.specs.Device.{Device}
 use Rattle.board.specs.Flash.{IsImage}
-use Rattle.board.specs.Meaning.{BoardMeaning, TellsFlash, TellsLink}
-use Rattle.board.specs.Moments.{LeavesOnly, SendsNothing}
+use Rattle.board.specs.Meaning.{BoardMeaning, TellsFlash}
+use Rattle.board.specs.Moments.{LeavesOnly}
 use Rattle.board.specs.Touches.{Touches}
 use Rattle.board.proofs.Runs as runs
 use Rattle.board.proofs.Stops as stops

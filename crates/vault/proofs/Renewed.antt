@@ -1,5 +1,5 @@
 -- A table whose store's last block is renewed: it is the same at each moment.
-use Rattle.std.proofs.Common.{◌≡◌, inl, inr, ℕ, ◌+◌, ◌*◌, ◌<◌, ◌≤◌, Bool, true, false, List, [], ◌∷◌, Some, sym, ◌∙◌, ap, subst, arith}
+use Rattle.std.proofs.Common.{◌≡◌, inl, inr, ℕ, ◌+◌, ◌<◌, Bool, true, false, List, [], ◌∷◌, Some, sym, ◌∙◌, subst, arith}
 use Rattle.block_pool.specs.Blocks.{is_free}
 use Rattle.board.specs.Flash.{Flash, IsContent, IsImage, loosened, pages_of_block}
 use Rattle.board.specs.Touches.{KeptElsewhere}

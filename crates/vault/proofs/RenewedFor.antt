@@ -1,25 +1,20 @@
 -- Stores that are renewed one after another for a packet that they take.
-use Rattle.std.proofs.Common.{◌≡◌, inl, inr, ◌<◌, ◌≤◌, ◌==◌, ◌+◌, ℕ, Bool, true, false, List, length, slice_set, Some, Result, Ok, Err, OnOk, refl, sym, ◌∙◌, ap, subst, arith, eqb-true}
+use Rattle.std.proofs.Common.{◌≡◌, inl, inr, ◌<◌, ◌==◌, ◌+◌, ℕ, Bool, true, false, List, length, Ok, refl, sym, ◌∙◌, ap, subst, arith, eqb-true}
 use Rattle.std.specs.Prelude.{⊤, slice_get}
 use Rattle.std.proofs.lemmas.Bool.{cases_lt, eq-eqb, false≢true}
 use Rattle.std.proofs.lemmas.Option.{slice_get_within}
 use Rattle.board.specs.Flash.{IsImage}
 use Rattle.board.specs.Meaning.{BoardMeaning, TellsFlash}
-use Rattle.pst_model.specs.Table.{Store, Table}
 use Rattle.put_laws.proofs.Spots.{get_other}
-use Rattle.store_directory.specs.Directory.{Directory, Listed, with_stores}
-use Rattle.store_directory.specs.Kept.{Kept}
-use Rattle.store_policy.specs.Shown.{AreShown, IsTableShown}
-use Rattle.store_policy.specs.declared.view.View.{View}
+use Rattle.store_directory.specs.Directory.{Listed}
 use Rattle.time_index.specs.TimeIndex.{TimeIndex}
 use Rattle.vault.proofs.Needing.{needs_not_fresh}
 use Rattle.vault.proofs.Places.{some_at}
 use Rattle.vault.proofs.RenewRuns.{StandsIfTold, renews_none, renews_on}
 use Rattle.vault.proofs.ReplacedStores.{each_by_places, each_here, got_new}
-use Rattle.vault.specs.Memory.{EachStore, InMemory, IsSound, IsSoundStore, IsViewOf}
+use Rattle.vault.specs.Memory.{InMemory, IsSound, IsSoundStore}
 use Rattle.vault.specs.Renewing.{AtPlace, NeedsRenewal, Renews, RenewsAt}
 use Rattle.vault.specs.Storing.{AreFreshFor, IsFreshFor}
-use Rattle.vault.specs.declared.fault.VaultFault.{VaultFault}
 use Rattle.vault.specs.declared.last_block.LastBlock.{LastBlock}
 
 -- Each store before a place was looked at. `old` was the vault when the board was `start`.

@@ -1,5 +1,5 @@
 -- What is in memory behind the renewal of a last block fits together.
-use Rattle.std.proofs.Common.{◌≡◌, ◌≢◌, ℕ, ◌+◌, ◌<◌, ◌≤◌, ◌==◌, ◌&&◌, nat_le, nat_lt, not, Bool, true, false, List, [], ◌∷◌, ◌++◌, All, length, map, drop, get_or, set, slice_set, Option, Some, refl, sym, ◌∙◌, ap, subst, arith, eqb-true, eq-eqb, length-append}
+use Rattle.std.proofs.Common.{◌≡◌, ◌≢◌, ℕ, ◌+◌, ◌<◌, ◌≤◌, ◌==◌, ◌&&◌, nat_le, nat_lt, not, Bool, true, false, List, [], ◌∷◌, ◌++◌, All, length, map, get_or, set, slice_set, Some, refl, sym, ◌∙◌, ap, subst, arith, eqb-true, eq-eqb}
 use Rattle.std.specs.Prelude.{IfSome, slice_get}
 use Rattle.std.specs.List.{list_all}
 use Rattle.std.proofs.lemmas.Bool.{and_from, and_parts, false≢true, lt-ltb, le-leb}
@@ -10,18 +10,16 @@ use Rattle.block_pool.specs.Blocks.{Blocks, IsPool, blocks_of, free_count, is_fr
 use Rattle.block_pool.specs.Sizes.{blocks_for_size}
 use Rattle.control_defs.specs.declared.patterns.Pattern.{Pattern}
 use Rattle.image_table.proofs.Frames.{data_links, data_tests, shared_links}
-use Rattle.image_table.specs.Table.{table_rule}
 use Rattle.meta_journal.specs.Standing as journals
-use Rattle.put_laws.proofs.Replaced.{distinct_in, kept_in, listed_in}
+use Rattle.put_laws.proofs.Replaced.{distinct_in, kept_in}
 use Rattle.put_laws.proofs.Spots.{Spot, listed_here, put_here, set_in, spot}
 use Rattle.record_view.specs.declared.link.Link.{Link}
 use Rattle.store_directory.proofs.Lawful.{lawful-from_kept}
 use Rattle.store_directory.proofs.Steps.{some_then}
-use Rattle.store_directory.specs.Changes.{Swap, apply, change_store, with_last}
+use Rattle.store_directory.specs.Changes.{Swap, apply}
 use Rattle.store_directory.specs.Checkpoints.{is_lawful}
 use Rattle.store_directory.specs.Directory.{Directory, FitsLink, IsDirectory, IsListed, Listed, find_store, is_new, put_store, reserved_by, swap_last, with_stores}
 use Rattle.store_directory.specs.Kept.{Kept}
-use Rattle.store_directory.specs.Options.{◌>>=◌}
 use Rattle.store_directory.specs.declared.row.Row.{Row}
 use Rattle.store_load.proofs.Rows.{row_numbers}
 use Rattle.store_load.specs.Claims.{all_links, block_of, is_data, may_share}
@@ -31,11 +29,11 @@ use Rattle.store_write.proofs.Shared.{swapped_named, swapped_share}
 use Rattle.store_write.specs.Renewed.{AreNamed, first_in_last, last_entries, renewed_index, renewed_link}
 use Rattle.time_index.specs.TimeIndex.{TimeIndex, pages_of}
 use Rattle.vault.proofs.EachStores.{as_many_indexes}
-use Rattle.vault.proofs.Loads.{all_at, own_at}
+use Rattle.vault.proofs.Loads.{all_at}
 use Rattle.vault.proofs.FreeBlocks.{new_each}
 use Rattle.vault.proofs.Places.{each_at, of_some, some_at}
 use Rattle.vault.proofs.RenewedPlaces.{can_swap, renewed_in_place}
-use Rattle.vault.proofs.ReplacedStores.{Here, each_here, each_replaced}
+use Rattle.vault.proofs.ReplacedStores.{each_here, each_replaced}
 use Rattle.vault.proofs.Tables.{shared_parts}
 use Rattle.vault.specs.Memory.{EachStore, InMemory, IsSound, IsSoundStore, has_link, is_unlinked}
 use Rattle.vault.specs.Renewing.{last_block}

@@ -1,5 +1,5 @@
 -- A store is in place behind the renewal of its last block, and shows the same packets.
-use Rattle.std.proofs.Common.{◌≡◌, ℕ, ◌+◌, ◌-◌, ◌%◌, ◌<◌, ◌≤◌, true, List, [], ◌∷◌, ◌++◌, All, length, map, take, drop, Some, refl, sym, ◌∙◌, ap, subst, arith, take-append-drop}
+use Rattle.std.proofs.Common.{◌≡◌, ℕ, ◌+◌, ◌%◌, ◌<◌, ◌≤◌, true, List, [], ◌∷◌, ◌++◌, All, length, map, take, drop, Some, refl, sym, ◌∙◌, ap, subst, arith, take-append-drop}
 use Rattle.std.proofs.lemmas.List.{map-append}
 use Rattle.std.proofs.lemmas.List.Sums.{sum_by-cons}
 use Rattle.std.proofs.lemmas.Option.{none-some, same_Some}
@@ -13,11 +13,11 @@ use Rattle.store_directory.specs.declared.row.Row.{Row}
 use Rattle.store_directory.proofs.Steps.{some_then}
 use Rattle.store_load.specs.Extents.{end_of, last_of}
 use Rattle.store_load.specs.InRange.{AreFull}
-use Rattle.store_load.specs.Renewing.{last_position, renewed, renewed_from}
+use Rattle.store_load.specs.Renewing.{last_position, renewed}
 use Rattle.store_policy.specs.Shown.{IsStoreShown, length_of}
 use Rattle.store_put.specs.Ranges.{AreFew, AreFewIn, IsInPlace}
 use Rattle.store_write.proofs.RangesOn.{in_range}
-use Rattle.store_write.specs.Renewed.{first_in_last, last_entries, renewed_index, renewed_link}
+use Rattle.store_write.specs.Renewed.{last_entries, renewed_index, renewed_link}
 use Rattle.time_index.specs.TimeIndex.{TimeIndex, pages_of, stamp_of}
 use Rattle.time_index.specs.declared.entry.Entry.{Entry}
 use Rattle.vault.specs.Memory.{has_link}

@@ -1,18 +1,17 @@
 -- A vault whose store's last block was renewed stands for the same table.
-use Rattle.std.proofs.Common.{◌≡◌, inl, inr, ℕ, ◌+◌, ◌*◌, ◌<◌, ◌≤◌, ◌==◌, ◌&&◌, nat_le, nat_lt, not, ◌/◌, Bool, true, false, List, [], ◌∷◌, length, map, set, slice_set, Some, refl, sym, ◌∙◌, ap, subst, arith}
-use Rattle.std.specs.Prelude.{slice_get}
+use Rattle.std.proofs.Common.{◌≡◌, inl, inr, ℕ, ◌+◌, ◌*◌, ◌<◌, ◌≤◌, ◌==◌, ◌/◌, Bool, true, false, List, [], ◌∷◌, length, map, set, slice_set, Some, refl, sym, ◌∙◌, ap, subst, arith}
 use Rattle.std.specs.List.{list_all}
 use Rattle.std.proofs.lemmas.Bool.{and_parts, cases_lt, eq-eqb, eqb-true, false≢true, not-true}
 use Rattle.std.proofs.lemmas.Option.{none-some, same_Some}
-use Rattle.block_pool.specs.Blocks.{Blocks, IsPool, blocks_of, is_free, is_ready}
+use Rattle.block_pool.specs.Blocks.{Blocks, IsPool, is_free, is_ready}
 use Rattle.board.specs.Flash.{Flash, IsContent, pages_of_block}
 use Rattle.board.specs.Touches.{KeptElsewhere}
 use Rattle.board.proofs.Pages.{above_pages, below_pages}
 use Rattle.chain_log.specs.Pages.{IsCleanFrom}
 use Rattle.image_table.proofs.DataPages.{data_page}
-use Rattle.image_table.proofs.Frames.{data_links, data_tests, own_links, records_kept, shared_links, table_loads}
+use Rattle.image_table.proofs.Frames.{data_links, own_links, records_kept, shared_links, table_loads}
 use Rattle.image_table.proofs.Standing.{table_here}
-use Rattle.image_table.specs.Table.{in_records, store_of, table_by, table_rule}
+use Rattle.image_table.specs.Table.{store_of, table_by, table_rule}
 use Rattle.meta_journal.specs.Standing.{AllFirm}
 use Rattle.meta_journal.specs.Standing as journals
 use Rattle.pst_model.specs.Table.{Store, Table}
@@ -22,14 +21,14 @@ use Rattle.store_directory.proofs.Steps.{some_then}
 use Rattle.store_directory.specs.Checkpoints.{is_lawful}
 use Rattle.store_directory.specs.Directory.{Directory, Listed, is_new, swap_last}
 use Rattle.store_directory.specs.Kept.{Kept}
-use Rattle.store_load.proofs.Eachs.{EachIs, each_both}
+use Rattle.store_load.proofs.Eachs.{each_both}
 use Rattle.store_load.proofs.Frames.{answered}
 use Rattle.store_load.proofs.Indexed.{index_kept}
 use Rattle.store_load.proofs.StayingIndexes.{index_stays, used_stays}
-use Rattle.store_load.specs.Claims.{all_links, block_of, is_data, may_share}
+use Rattle.store_load.specs.Claims.{block_of, is_data, may_share}
 use Rattle.store_load.specs.Extents.{last_of}
 use Rattle.store_load.specs.Frame.{in_store}
-use Rattle.store_load.specs.Keeping.{IsLinkOf, Keeps}
+use Rattle.store_load.specs.Keeping.{Keeps}
 use Rattle.store_load.specs.Loaded.{index_of}
 use Rattle.store_load.specs.Moving.{SpellsLast}
 use Rattle.store_policy.specs.Shown.{IsTableShown}
@@ -38,15 +37,13 @@ use Rattle.store_write.specs.Renewed.{last_entries, renewed_index, renewed_link}
 use Rattle.time_index.specs.TimeIndex.{TimeIndex, pages_of}
 use Rattle.vault.proofs.DataBlocks.{clean_from, data_out, store_next}
 use Rattle.vault.proofs.EachStores.{each_gives}
-use Rattle.vault.proofs.Fetched.{by_directory}
 use Rattle.vault.proofs.FreeBlocks.{new_each, off_store}
 use Rattle.vault.proofs.Loads.{own_at}
 use Rattle.vault.proofs.Renewed.{by_next}
-use Rattle.vault.proofs.RenewedMemory.{IsStoreAt, applied, found, lawful_now, made, next, next_stores, ready_before, renewed_store, share_now, swapped, unlinked}
-use Rattle.vault.proofs.RenewedPlaces.{renewed_in_place}
+use Rattle.vault.proofs.RenewedMemory.{IsStoreAt, applied, found, lawful_now, made, next, ready_before, renewed_store, share_now, swapped, unlinked}
 use Rattle.vault.proofs.ReplacedStores.{each_here, each_replaced, each_with}
 use Rattle.vault.proofs.SameRecords.{each_next, keep_same}
-use Rattle.vault.proofs.Tables.{HasIndex, shared_parts, shows_table, view_shows}
+use Rattle.vault.proofs.Tables.{HasIndex, shows_table, view_shows}
 use Rattle.vault.specs.Changing.{IsKept, journal_pages}
 use Rattle.vault.specs.Memory.{EachStore, InMemory, IsSound, has_link}
 use Rattle.vault.specs.Renewing.{last_block}

@@ -1,22 +1,19 @@
 -- A vault that stands for the table behind a request.
-use Rattle.std.proofs.Common.{◌≡◌, inl, inr, ℕ, List, Some, refl, sym, ◌∙◌, ap, subst}
+use Rattle.std.proofs.Common.{◌≡◌, inl, inr, ℕ, List, Some, refl, ap}
 use Rattle.block_pool.specs.Blocks.{IsPool}
 use Rattle.board.specs.Flash.{Flash, IsContent, IsImage, loosened}
 use Rattle.board.specs.Touches.{KeptElsewhere}
 use Rattle.control_defs.specs.declared.instructions.Instruction.{Instruction}
-use Rattle.image_table.specs.Standing.{HoldsEitherTable, HoldsTable}
+use Rattle.image_table.specs.Standing.{HoldsEitherTable}
 use Rattle.image_table.specs.Table.{table_by}
 use Rattle.meta_journal.specs.Journals.{Holds}
 use Rattle.meta_journal.specs.Standing as journals
 use Rattle.pst_model.specs.Table.{Table}
 use Rattle.request_laws.specs.Counting.{table_behind}
 use Rattle.request_laws.proofs.Stays.{kept_same}
-use Rattle.store_directory.specs.Directory.{Directory}
 use Rattle.store_directory.specs.Kept.{Kept}
-use Rattle.store_policy.specs.Shown.{IsTableShown}
 use Rattle.store_policy.specs.declared.refusal.Refusal.{Refusal}
 use Rattle.store_policy.specs.declared.view.View.{View}
-use Rattle.time_index.specs.TimeIndex.{TimeIndex}
 use Rattle.vault.proofs.Entered.{entered_stands, here, one_held, sound_entered}
 use Rattle.vault.proofs.Keeping.{moves_none}
 use Rattle.vault.specs.Changing.{HoldsOne, IsKept, journal_pages}

@@ -1,5 +1,5 @@
 -- Room was made in the journal of a vault: the table is the same at each moment.
-use Rattle.std.proofs.Common.{◌≡◌, inl, inr, ℕ, List, Some, refl, subst, sym}
+use Rattle.std.proofs.Common.{◌≡◌, inl, inr, ℕ, refl, subst, sym}
 use Rattle.block_pool.specs.Blocks.{IsPool}
 use Rattle.board.specs.Flash.{IsContent, IsImage, loosened}
 use Rattle.board.specs.Meaning.{BoardMeaning, TellsFlash}

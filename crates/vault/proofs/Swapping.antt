@@ -1,7 +1,7 @@
 -- A store's last block that is copied, and the entry that makes the copy the store's last block.
-use Rattle.std.proofs.Common.{◌≡◌, inl, inr, ℕ, ◌<◌, ◌≤◌, Bool, true, false, List, [], ◌∷◌, length, map, set, slice_set, Some, Result, Ok, Err, refl, sym, ◌∙◌, ap, subst, arith}
-use Rattle.std.specs.Prelude.{⊤, IfErr, None, OnOk, is_ok}
-use Rattle.block_pool.specs.Blocks.{Blocks, IsPool, blocks_of, free_count, is_free}
+use Rattle.std.proofs.Common.{◌≡◌, ℕ, true, false, List, set, slice_set, Some, Result, Ok, Err, refl, sym, ◌∙◌, ap, subst}
+use Rattle.std.specs.Prelude.{⊤, None, OnOk}
+use Rattle.block_pool.specs.Blocks.{Blocks, IsPool, blocks_of, is_free}
 use Rattle.board.specs.Counts.{Rose}
 use Rattle.board.specs.Device.{Device}
 use Rattle.board.specs.Flash.{IsContent, IsImage, loosened, pages_of_block}
@@ -21,7 +21,7 @@ use Rattle.image_table.specs.Table.{table_rule}
 use Rattle.meta_journal.specs.Journals.{HoldsEither}
 use Rattle.meta_journal.specs.Standing.{AllFirm}
 use Rattle.meta_journal.specs.Standing as journals
-use Rattle.pst_model.specs.Table.{Store, Table}
+use Rattle.pst_model.specs.Table.{Table}
 use Rattle.record_view.specs.Records.{Meaning}
 use Rattle.record_view.specs.declared.link.Link.{Link}
 use Rattle.store_directory.specs.Changes.{Swap, apply}
@@ -37,7 +37,7 @@ use Rattle.store_write.specs.Renewed.{last_entries, renewed_index, renewed_link}
 use Rattle.time_index.specs.TimeIndex.{TimeIndex, pages_of}
 use Rattle.vault.proofs.Entered.{made_by}
 use Rattle.vault.proofs.Renewed.{journal_copied, kept_copied, while_copying, while_swapping}
-use Rattle.vault.proofs.RenewedMemory.{IsStoreAt, applied, found, lawful_now, next, next_stores, renewed_store, share_now, sound_renewed, swapped}
+use Rattle.vault.proofs.RenewedMemory.{IsStoreAt, applied, found, lawful_now, next, renewed_store, share_now, sound_renewed, swapped}
 use Rattle.vault.proofs.RenewedPlaces.{renewed_shown}
 use Rattle.vault.proofs.RenewedStands.{keeps_at, renewed_stands}
 use Rattle.vault.proofs.RenewRuns.{StandsIfTold}
@@ -48,7 +48,6 @@ use Rattle.vault.specs.Memory.{InMemory, IsSound, has_link}
 use Rattle.vault.specs.Renewing.{CopiesInto, Differs, DiffersUntold, IsLastCopy, KeepRows, Renews, RenewsAt, last_block}
 use Rattle.vault.specs.Standing.{StandsFor}
 use Rattle.vault.specs.declared.copying.LastCopy.{LastCopy}
-use Rattle.vault.specs.declared.fault.VaultFault.{VaultFault}
 use Rattle.vault.specs.declared.fault.VaultFault.TheVariants.{Flash}
 use Rattle.vault.specs.declared.last_block.LastBlock.{LastBlock}
 

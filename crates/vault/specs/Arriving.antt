@@ -1,6 +1,6 @@
 -- A packet that arrives, as the world sees it.
-use Rattle.std.specs.Prelude.{◌≡◌, ℕ, ◌==◌, ◌&&◌, not, true, false, if◌then◌else◌, List, [], map, flat_map, slice_get, Some, Result, IfErr, OnOk}
-use Rattle.board.specs.Counts.{Rose}
+use Rattle.std.specs.Prelude.{◌≡◌, ℕ, ◌+◌, ◌==◌, ◌&&◌, not, true, false, if◌then◌else◌, List, [], map, flat_map, slice_get, Some, Result, IfErr, OnOk}
+use Rattle.board.specs.Counts.{Rose, Works}
 use Rattle.board.specs.Meaning.{BoardMeaning, TellsFlash, TellsLink}
 use Rattle.board.specs.Moments.{LeavesOnly, SendsNothing}
 use Rattle.control_defs.specs.Patterns.{any_covers}
@@ -15,6 +15,7 @@ use Rattle.store_directory.specs.Directory.{Listed}
 use Rattle.store_policy.specs.Shown.{IsStoreShown}
 use Rattle.store_put.specs.Refusals.{report_of}
 use Rattle.time_index.specs.TimeIndex.{TimeIndex}
+use Rattle.vault.specs.Changing.{RoomAfter, if_short}
 use Rattle.vault.specs.Fetching.{OnFlash, UnlessFlash}
 use Rattle.vault.specs.Memory.{InMemory, IsSound}
 use Rattle.vault.specs.Putting.{IsAfterPut, PutsWithin}
@@ -67,6 +68,12 @@ pub record Arrives {A B : Type 0} (means : BoardMeaning B) (old new : B) (was no
   pub link : LeavesLink (means.counts old) (means.counts new)
   pub same : means.device new ≡ means.device old
   pub work : AreFreshFor packet was → PutsWithin means old new was packet
+  -- an idle packet is put into no store
+  pub idle_work : (apid_of packet == 2047) ≡ true
+      → Works 0 (if_short was.journal.room 85 + 2) (if_short was.journal.room 7)
+      (if_short was.journal.room 13 + 2) (means.counts old) (means.counts new)
+  pub room : OnOk result (AreFreshFor packet was
+      → RoomAfter 7 was.journal.room now.journal.room)
   pub mismatch : IfErr result (DiffersUntold (TellsFlash means old))
   pub no_fault : UnlessFlash result ((means.counts new).flash_faults ≡ (means.counts old).flash_faults)
   pub cause : OnFlash result (Rose (means.counts old).flash_faults (means.counts new).flash_faults)

@@ -1,5 +1,5 @@
 -- How a change of the directory becomes durable.
-use Rattle.std.specs.Prelude.{◌≡◌, ◌≤◌, Some, ◌⊎◌, ⊤, ℕ, Bool, nat_lt, if◌then◌else◌, List, [], ◌∷◌, Result, OnOk, is_ok}
+use Rattle.std.specs.Prelude.{◌≡◌, ◌≤◌, ◌<◌, ◌+◌, Some, ◌⊎◌, ⊤, ℕ, Bool, nat_lt, if◌then◌else◌, List, [], ◌∷◌, Result, OnOk, is_ok}
 use Rattle.board.specs.Flash.{Flash, pages_from}
 use Rattle.image_table.specs.Table.{table_by}
 use Rattle.meta_journal.specs.Journals.{FirmJournal, Holds}
@@ -26,6 +26,13 @@ HoldsOne blocks before after image = Holds blocks before image ⊎ Holds blocks 
 -- work that is done only if the room is below 21 pages
 abbrev pub if_short : (room work : ℕ) → ℕ
 if_short room work = if nat_lt room 21 then work else 0
+
+-- The room of a journal after an entry of at most so many pages. If less than 21 pages were room, the
+-- other half counts now, and had 432 pages of room before the entry at least.
+pub record RoomAfter (most old new : ℕ) : Type 0 where
+  pub falls : 21 ≤ old → new ≤ old
+  pub within : 21 ≤ old → old ≤ new + most
+  pub switched : old < 21 → 432 ≤ new + most
 
 -- a table with one report more
 abbrev pub with_report : Table → Table

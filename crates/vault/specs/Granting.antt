@@ -12,6 +12,7 @@ use Rattle.space_packet.specs.View.{octets_of}
 use Rattle.space_packet.specs.declared.view.PacketView.{PacketView}
 use Rattle.store_directory.specs.Changes.{apply}
 use Rattle.store_directory.specs.declared.row.Row.{Row}
+use Rattle.vault.specs.Changing.{RoomAfter}
 use Rattle.vault.specs.Fetching.{TellsDifference, charge_at}
 use Rattle.vault.specs.Memory.{InMemory, IsSound}
 use Rattle.vault.specs.Standing.{StandsFor}
@@ -95,6 +96,9 @@ pub record IsGranted {B : Type 0} (means : BoardMeaning B) (before after : B) (o
   pub directory : (pick : Pick) (row : Row) → pick_of old.directory.stores ≡ Some pick
       → IsRowAt old.directory.stores pick.at row → is_open ≡ true
       → apply old.directory.directory (put_sent pick row) ≡ Some new.directory.directory
+  -- the entry has two pages
+  pub room : (pick : Pick) → pick_of old.directory.stores ≡ Some pick → is_open ≡ true
+      → RoomAfter 2 old.journal.room new.journal.room
   pub sound : is_open ≡ true → IsSound new
   pub journal : is_open ≡ true → TellsFlash means before
       → journals.StandsFor new.journal (means.flash after)

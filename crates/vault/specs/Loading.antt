@@ -1,5 +1,5 @@
 -- The stores of a directory, as they are loaded one after another.
-use Rattle.std.specs.Prelude.{◌≡◌, ℕ, true, List, [], ◌∷◌, ◌++◌, length, Option, Some, None}
+use Rattle.std.specs.Prelude.{◌≡◌, ℕ, List, [], ◌∷◌, ◌++◌, length, Option, Some, None}
 use Rattle.image_table.specs.Table.{table_rule}
 use Rattle.store_directory.specs.Directory.{Listed}
 use Rattle.store_load.specs.Loaded.{index_of, used_in}

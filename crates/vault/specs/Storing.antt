@@ -1,5 +1,5 @@
 -- An arriving packet that is put into one store after another.
-use Rattle.std.specs.Prelude.{◌≡◌, ◌≤◌, ◌<◌, ◌⊎◌, ℕ, ◌+◌, ◌*◌, Bool, true, false, ◌&&◌, not, nat_le, if◌then◌else◌, max, List, [], ◌∷◌, length, map, take, drop, slice_get, Some}
+use Rattle.std.specs.Prelude.{◌≡◌, ◌≤◌, ◌<◌, ◌⊎◌, ℕ, ◌+◌, ◌*◌, Bool, true, false, ◌&&◌, not, nat_le, if◌then◌else◌, List, [], ◌∷◌, length, map, take, drop, slice_get, Some}
 use Rattle.block_pool.specs.Blocks.{is_free, is_ready}
 use Rattle.board.specs.Counts.{Works}
 use Rattle.board.specs.Flash.{Flash}
@@ -13,7 +13,7 @@ use Rattle.pst_model.specs.Arrivals.{is_offered}
 use Rattle.pst_model.specs.Rules.{is_refused}
 use Rattle.pst_model.specs.Table.{Store, Stored, Table}
 use Rattle.put_laws.specs.Indexes.{AreIndexedAt}
-use Rattle.put_laws.specs.Puts.{Accepts, need_of}
+use Rattle.put_laws.specs.Puts.{Accepts}
 use Rattle.put_laws.specs.Walks.{HasOffered}
 use Rattle.record_view.specs.declared.link.Link.{Link}
 use Rattle.space_packet.specs.Charge.{charge_of}

@@ -3,8 +3,8 @@
 // Order: the stores that take it into a stale block are renewed, one entry for each, and the table
 // stays as it is; then the packet is put into all stores by one entry. An idle packet changes the
 // clock alone.
-ghost use Rattle.std.specs.Prelude.{◌≡◌, ◌<◌, ◌^◌, ◌==◌, ℕ, List, false, true, IfErr, IfOk, OnOk};
-ghost use Rattle.board.specs.Counts.{Rose};
+ghost use Rattle.std.specs.Prelude.{◌≡◌, ◌<◌, ◌+◌, ◌^◌, ◌==◌, ℕ, List, false, true, IfErr, IfOk, OnOk};
+ghost use Rattle.board.specs.Counts.{Rose, Works};
 ghost use Rattle.board.specs.Meaning.{TellsFlash, TellsLink};
 ghost use Rattle.board.specs.Moments.{LeavesOnly, SendsNothing};
 ghost use Rattle.image_table.specs.Standing.{HoldsEitherTable, HoldsTable};
@@ -16,6 +16,7 @@ ghost use Rattle.space_packet.specs.View.{octets_of};
 ghost use Rattle.store_policy.specs.Shown.{IsTableShown};
 ghost use Rattle.store_policy.specs.declared.view.View.{View as Shown};
 ghost use Rattle.vault.specs.Arriving.{Arrives, IsFreshenedBy, IsOutcomeOf};
+ghost use Rattle.vault.specs.Changing.{RoomAfter, if_short};
 ghost use Rattle.vault.specs.Fetching.{OnFlash, UnlessFlash};
 ghost use Rattle.vault.specs.Memory.{IsSound, IsViewOf};
 ghost use Rattle.vault.specs.Putting.{IsAfterPut, PutsWithin};
@@ -180,6 +181,12 @@ impl Vault {
         ensures same { B.means.device board.new ≡ B.means.device board.old }
         ensures work { AreFreshFor (octets_of packet.entry) self.old
             → PutsWithin B.means board.old board.new self.old (octets_of packet.entry) }
+        ensures idle_work { (apid_of (octets_of packet.entry) == 2047) ≡ true
+            → Works 0 (if_short self.old.journal.room 85 + 2) (if_short self.old.journal.room 7)
+            (if_short self.old.journal.room 13 + 2)
+            (B.means.counts board.old) (B.means.counts board.new) }
+        ensures room { OnOk result (AreFreshFor (octets_of packet.entry) self.old
+            → RoomAfter 7 self.old.journal.room self.new.journal.room) }
         ensures mismatch { IfErr result (DiffersUntold (TellsFlash B.means board.old)) }
         ensures no_fault { UnlessFlash result
             ((B.means.counts board.new).flash_faults ≡ (B.means.counts board.old).flash_faults) }

@@ -15,7 +15,7 @@ ghost use Rattle.store_directory.specs.Directory.{Directory as Kept, IsDirectory
 ghost use Rattle.store_directory.specs.Entries.{CanBeWritten, FitsChange, change_octets};
 ghost use Rattle.store_directory.specs.Folds.{fold_entry};
 ghost use Rattle.store_directory.specs.Kept.{change_of};
-ghost use Rattle.vault.specs.Changing.{HoldsOne, IsKept, if_short, journal_pages};
+ghost use Rattle.vault.specs.Changing.{HoldsOne, IsKept, RoomAfter, if_short, journal_pages};
 
 use board::{Board, Failed};
 use meta_journal::Journal;
@@ -40,6 +40,7 @@ pub(crate) fn make_room<B: Board>(
         → StandsFor journal.old (B.means.flash board.old) }
 
     ensures room { OnOk result (21 ≤ journal.new.room) }
+    ensures room_after { OnOk result (RoomAfter 0 journal.old.room journal.new.room) }
     ensures stands { OnOk result (TellsFlash B.means board.old
         → StandsFor journal.new (B.means.flash board.new)) }
     ensures holds { OnOk result (TellsFlash B.means board.old
@@ -99,6 +100,8 @@ pub(crate) fn add_entry<B: Board>(
         (HoldsEither (B.means.device board.old).blocks journal_pages (B.means.flash board.old)
         before after) }
     ensures is_firm { OnOk result (TellsFlash B.means board.old → AllFirm (B.means.flash board.new)) }
+    ensures room_after { OnOk result
+        (RoomAfter (1 + payload_pages (length entry.now)) journal.old.room journal.new.room) }
     ensures touches { Touches B.means journal_pages (1 + payload_pages (length entry.now)) 0 2
         board.old board.new }
     ensures no_fault { OnOk result
@@ -143,6 +146,9 @@ pub(crate) fn add<B: Board>(
         (HoldsEither (B.means.device board.old).blocks journal_pages (B.means.flash board.old)
         before after) }
     ensures is_firm { OnOk result (TellsFlash B.means board.old → AllFirm (B.means.flash board.new)) }
+    ensures room_after { OnOk result
+        (RoomAfter (1 + payload_pages (length (change_octets (change_of change.now))))
+        journal.old.room journal.new.room) }
     ensures touches { Touches B.means journal_pages
         (1 + payload_pages (length (change_octets (change_of change.now)))) 0 2
         board.old board.new }
@@ -196,6 +202,9 @@ pub(crate) fn save<B: Board>(
         (HoldsEither (B.means.device board.old).blocks journal_pages (B.means.flash board.old)
         directory.now.directory after) }
     ensures is_firm { OnOk result (TellsFlash B.means board.old → AllFirm (B.means.flash board.new)) }
+    ensures room_after { OnOk result
+        (RoomAfter (1 + payload_pages (length (change_octets (change_of change.now))))
+        journal.old.room journal.new.room) }
     ensures touches { Touches B.means journal_pages
         (if_short journal.old.room 85
         + (1 + payload_pages (length (change_octets (change_of change.now)))))

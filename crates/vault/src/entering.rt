@@ -10,7 +10,7 @@ ghost use Rattle.meta_journal.specs.Standing.{StandsFor as JournalStandsFor};
 ghost use Rattle.pst_model.specs.Table.{Table};
 ghost use Rattle.store_directory.specs.Entries.{CanBeWritten, FitsChange, change_octets};
 ghost use Rattle.store_directory.specs.Kept.{IsChange, change_of};
-ghost use Rattle.vault.specs.Changing.{Becomes, CanBeEntered, IsAfterEntry, NeedsNone, if_short, journal_pages};
+ghost use Rattle.vault.specs.Changing.{Becomes, CanBeEntered, IsAfterEntry, NeedsNone, RoomAfter, if_short, journal_pages};
 ghost use Rattle.vault.specs.Memory.{IsSound};
 ghost use Rattle.vault.specs.Standing.{StandsFor};
 
@@ -53,6 +53,9 @@ impl Vault {
         ensures sound { OnOk result (IsSound self.new) }
         ensures journal { OnOk result (TellsFlash B.means board.old
             → JournalStandsFor self.new.journal (B.means.flash board.new)) }
+        ensures room { OnOk result
+            (RoomAfter (1 + payload_pages (length (change_octets (change_of change.now))))
+            self.old.journal.room self.new.journal.room) }
         ensures touches { Touches B.means journal_pages
             (if_short self.old.journal.room 85
             + (1 + payload_pages (length (change_octets (change_of change.now)))))

@@ -15,7 +15,7 @@ ghost use Rattle.pst_model.specs.Table.{Table};
 ghost use Rattle.retrieval.specs.Picks.{pick_of};
 ghost use Rattle.space_packet.specs.Packet.{IsPacket};
 ghost use Rattle.space_packet.specs.View.{octets_of};
-ghost use Rattle.vault.specs.Changing.{if_short, journal_pages};
+ghost use Rattle.vault.specs.Changing.{RoomAfter, if_short, journal_pages};
 ghost use Rattle.vault.specs.Fetching.{OnFlash, UnlessFlash};
 ghost use Rattle.vault.specs.Granting.{DiffersNext, IsAfterPass, IsChannel, IsGranted, IsNoneFor};
 ghost use Rattle.vault.specs.Granting.{SendsAnswer, SendsHeld, charge_next};
@@ -50,6 +50,8 @@ impl Vault {
         ensures sound { OnOk result (IsSound self.new) }
         ensures journal { OnOk result (TellsFlash B.means board.old
             → JournalStandsFor self.new.journal (B.means.flash board.new)) }
+        ensures room { OnOk result
+            (RoomAfter 2 self.old.journal.room self.new.journal.room) }
         ensures touches { Touches B.means journal_pages
             (if_short self.old.journal.room 85 + 2) (if_short self.old.journal.room 7)
             (if_short self.old.journal.room 13 + 2) board.old board.new }

@@ -7,7 +7,7 @@ ghost use Rattle.board.specs.Touches.{Touches};
 ghost use Rattle.image_table.specs.Standing.{HoldsTable};
 ghost use Rattle.meta_journal.specs.Standing.{StandsFor as JournalStandsFor};
 ghost use Rattle.pst_model.specs.Table.{Table};
-ghost use Rattle.vault.specs.Changing.{if_short, journal_pages};
+ghost use Rattle.vault.specs.Changing.{RoomAfter, if_short, journal_pages};
 ghost use Rattle.vault.specs.Memory.{IsSound};
 ghost use Rattle.vault.specs.Putting.{IsAfterRoom};
 ghost use Rattle.vault.specs.Standing.{StandsFor};
@@ -33,6 +33,8 @@ impl Vault {
             → StandsFor self.old (B.means.flash board.old) table
             → StandsFor self.new (B.means.flash board.new) table) }
         ensures room { OnOk result (21 ≤ self.new.journal.room) }
+        ensures room_after { OnOk result
+            (RoomAfter 0 self.old.journal.room self.new.journal.room) }
         ensures after { IsAfterRoom self.old self.new result }
         ensures sound { OnOk result (IsSound self.new) }
         ensures touches { Touches B.means journal_pages (if_short self.old.journal.room 85)

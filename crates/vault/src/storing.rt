@@ -17,7 +17,7 @@ ghost use Rattle.pst_model.specs.Table.{Stored, Table};
 ghost use Rattle.space_packet.specs.Packet.{apid_of};
 ghost use Rattle.space_packet.specs.View.{octets_of};
 ghost use Rattle.store_put.specs.Recording.{stored_by};
-ghost use Rattle.vault.specs.Changing.{journal_pages};
+ghost use Rattle.vault.specs.Changing.{RoomAfter, journal_pages};
 ghost use Rattle.vault.specs.Memory.{InMemory, IsSound};
 ghost use Rattle.vault.specs.Putting.{BeginsPut, HasPutAll, IsAfterCommit, IsAfterPut, IsPut, PutsWithin};
 ghost use Rattle.vault.specs.Standing.{StandsFor};
@@ -114,6 +114,8 @@ impl Vault {
         ensures sound { OnOk result (IsSound self.new) }
         ensures journal { OnOk result (TellsFlash B.means board.old
             → JournalStandsFor self.new.journal (B.means.flash board.new)) }
+        ensures room { OnOk result
+            (RoomAfter 7 self.old.journal.room self.new.journal.room) }
         ensures touches { Touches B.means journal_pages 7 0 2 board.old board.new }
         ensures fault { IfErr result (λ fault. fault ≡ VaultFault.Flash) }
         ensures no_fault { OnOk result
@@ -169,6 +171,8 @@ impl Vault {
         ensures quiet { TellsLink B.means board.old → SendsNothing B.means board.old board.new }
         ensures same { B.means.device board.new ≡ B.means.device board.old }
         ensures work { PutsWithin B.means board.old board.new self.old (octets_of packet.entry) }
+        ensures room { OnOk result
+            (RoomAfter 7 self.old.journal.room self.new.journal.room) }
         ensures fault { IfErr result (λ fault. fault ≡ VaultFault.Flash) }
         ensures no_fault { OnOk result
             ((B.means.counts board.new).flash_faults ≡ (B.means.counts board.old).flash_faults) }

@@ -1,4 +1,4 @@
-use Rattle.std.proofs.Common.{◌≡◌, ℕ, ◌+◌, List, [], ◌∷◌, ◌++◌, drop, get_or, sym, ◌∙◌, ap, subst, arith, rules}
+use Rattle.std.proofs.Common.{ℕ, ◌+◌, List, [], ◌∷◌, ◌++◌, drop, get_or, sym, ◌∙◌, ap, subst, arith, rules}
 use Rattle.std.proofs.lemmas.List.{take_all}
 use Rattle.octet_fields.proofs.Results.{on_err}
 use Rattle.pst_model.proofs.Counted.{count_behind-more}

@@ -1,6 +1,4 @@
-use Rattle.std.proofs.Common.{◌≡◌, ℕ, true, false, List, Err, sym, ◌∙◌, ap, subst}
-use Rattle.board.specs.Meaning.{TellsFlash}
-use Rattle.pst_model.specs.Arrivals.{arrive}
+use Rattle.std.proofs.Common.{ℕ, true, false, List, Err, sym, ◌∙◌, ap, subst}
 use Rattle.pst_model.specs.Rules.{Output}
 use Rattle.pst_model.specs.Table.{Table}
 use Rattle.report_lines.specs.Counting.{IsCountOf}
@@ -11,7 +9,7 @@ use Rattle.vault.specs.Memory.{InMemory}
 use Rattle.vault.specs.Standing.{StandsFor}
 use Rattle.vault.specs.declared.outcome.StoreOutcome.{StoreOutcome}
 use Rattle.handler.proofs.Arrived.{arrival_failed, arrival_made, arrive_steps, arrived_lines}
-use Rattle.handler.proofs.InStep.{answers_done, answers_link}
+use Rattle.handler.proofs.InStep.{answers_done, answers_link, works_alone, works_within}
 use Rattle.handler.proofs.Shown.{is_view, reports_of, view_of}
 use Rattle.handler.specs.Arriving.{lines_by}
 use Rattle.handler.specs.Carrying.{Answers, handler_of}
@@ -76,3 +74,25 @@ returns-in-Err-send_lines-clause-answers g c =
     (c.in-Ok.ensures.outcome table (view_of vault) (is_view vault) (stands.shows (view_of vault) (is_view vault))) in
     answers_link means old mid new vault after (arrive_steps moment packet) c.requires.board made (lines 0) (c.in-Err-send_lines.ensures.breaks 0)
     (λ told table number stands. subst (λ (outputs : List Output). BreaksIn means mid new outputs) (are table number stands) (c.in-Err-send_lines.ensures.breaks number))
+
+pub returns-in-Err-clause-work : goal.returns-in-Err-clause-work
+returns-in-Err-clause-work g c fresh table view is shown = works_alone (c.in-Err.ensures.work fresh table view is shown)
+
+pub returns-in-Ok-send_lines-clause-work : goal.returns-in-Ok-send_lines-clause-work
+returns-in-Ok-send_lines-clause-work g c fresh table view is shown =
+    works_within (c.in-Ok.ensures.work fresh table view is shown) (c.in-Ok-send_lines.ensures.sends 0).work
+
+pub returns-in-Err-send_lines-clause-work : goal.returns-in-Err-send_lines-clause-work
+returns-in-Err-send_lines-clause-work g c fresh table view is shown =
+    works_within (c.in-Ok.ensures.work fresh table view is shown) (c.in-Err-send_lines.ensures.breaks 0).work
+
+pub returns-in-Err-clause-idle_work : goal.returns-in-Err-clause-idle_work
+returns-in-Err-clause-idle_work g c idle = works_alone (c.in-Err.ensures.idle_work idle)
+
+pub returns-in-Ok-send_lines-clause-idle_work : goal.returns-in-Ok-send_lines-clause-idle_work
+returns-in-Ok-send_lines-clause-idle_work g c idle =
+    works_within (c.in-Ok.ensures.idle_work idle) (c.in-Ok-send_lines.ensures.sends 0).work
+
+pub returns-in-Err-send_lines-clause-idle_work : goal.returns-in-Err-send_lines-clause-idle_work
+returns-in-Err-send_lines-clause-idle_work g c idle =
+    works_within (c.in-Ok.ensures.idle_work idle) (c.in-Err-send_lines.ensures.breaks 0).work

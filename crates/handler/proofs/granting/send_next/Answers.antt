@@ -1,15 +1,18 @@
-use Rattle.std.proofs.Common.{◌≡◌, ℕ, Bool, true, false, rules, List, [], ◌∷◌, Option, Ok, Err, sym, ap, subst, arith}
+use Rattle.std.proofs.Common.{ℕ, Bool, true, false, rules, List, [], Option, Some, Ok, Err, sym, ap, subst, arith}
 use Rattle.std.specs.Prelude.{is_ok}
 use Rattle.pst_model.specs.Rules.{Output, Retrieved, grant}
-use Rattle.pst_model.specs.Table.{Table}
 use Rattle.report_lines.proofs.Sendings.{lines_none}
 use Rattle.report_lines.specs.Counting.{IsCountOf}
 use Rattle.report_lines.specs.Sending.{BreaksIn, SendsLines}
+use Rattle.retrieval.specs.Picks.{pick_of}
+use Rattle.retrieval.specs.declared.pick.Pick.{Pick}
 use Rattle.space_packet.specs.View.{octets_of}
 use Rattle.space_packet.specs.declared.view.PacketView.{PacketView}
-use Rattle.vault.specs.Granting.{IsGranted, SendsAnswer, sent_of}
+use Rattle.vault.specs.Granting.{IsGranted, IsNoneFor, SendsAnswer, sent_of}
+use Rattle.vault.specs.Memory.{InMemory}
 use Rattle.handler.proofs.Grants.{counted_retrieved, grant_failed, grant_made}
 use Rattle.handler.proofs.InStep.{answers_done, answers_link, works_within}
+use Rattle.handler.proofs.Retrieved.{reads_retrieved}
 use Rattle.handler.specs.Carrying.{Answers, handler_of}
 use Rattle.handler.specs.declared.fault.HandlerFault.{HandlerFault}
 use Rattle.handler.proofs.granting.send_next.Goals as goal
@@ -92,3 +95,56 @@ returns-in-Err-send-clause-answers g c =
 
 pub returns-in-Err-send-clause-work : goal.returns-in-Err-send-clause-work
 returns-in-Err-send-clause-work g c = works_within c.in-Ok.ensures.works.work (c.in-Err-send.ensures.breaks 0 Retrieved).work
+
+pub returns-in-Err-clause-nothing : goal.returns-in-Err-clause-nothing
+returns-in-Err-clause-nothing g c none =
+    absurd (subst (λ (picked : Option Pick). IsNoneFor {A = ℕ × PacketView} picked (Err c.in-Err.fault)) none c.in-Err.ensures.none)
+
+pub returns-in-Err-clause-lasts : goal.returns-in-Err-clause-lasts
+returns-in-Err-clause-lasts g c = ap (λ (v : InMemory). v.lasts) c.grant.follows.holds-at-none.others
+
+pub returns-in_default-clause-room : goal.returns-in_default-clause-room
+returns-in_default-clause-room g c pick picked = c.grant.follows.holds-at-none.room pick picked (ap is_ok c.in-Ok.is)
+
+pub returns-in_default-clause-nothing : goal.returns-in_default-clause-nothing
+returns-in_default-clause-nothing g c none = (c.in-Ok.ensures.nothing none, c.grant.follows.holds-at-none.none none)
+
+pub returns-in_default-clause-lasts : goal.returns-in_default-clause-lasts
+returns-in_default-clause-lasts g c = ap (λ (v : InMemory). v.lasts) c.grant.follows.holds-at-none.others
+
+pub returns-in-Ok-send-clause-room : goal.returns-in-Ok-send-clause-room
+returns-in-Ok-send-clause-room g c pick picked = c.grant.follows.holds-at-none.room pick picked (ap is_ok c.in-Ok.is)
+
+pub returns-in-Ok-send-clause-nothing : goal.returns-in-Ok-send-clause-nothing
+returns-in-Ok-send-clause-nothing g c none =
+    let picked = pick_of c.args.vault.now.directory.stores in
+    let some = subst (λ (next : Option (ℕ × PacketView)). IsNoneFor {A = ℕ × PacketView} picked (Ok next)) c.in-Some.is c.in-Ok.ensures.none in
+    absurd (subst (λ (p : Option Pick). IsNoneFor {A = ℕ × PacketView} p (Ok (Some (c.in-Some.channel, c.in-Some.packet)))) none some)
+
+pub returns-in-Ok-send-clause-lasts : goal.returns-in-Ok-send-clause-lasts
+returns-in-Ok-send-clause-lasts g c = ap (λ (v : InMemory). v.lasts) c.grant.follows.holds-at-none.others
+
+pub returns-in-Err-send-clause-nothing : goal.returns-in-Err-send-clause-nothing
+returns-in-Err-send-clause-nothing g c none =
+    let picked = pick_of c.args.vault.now.directory.stores in
+    let some = subst (λ (next : Option (ℕ × PacketView)). IsNoneFor {A = ℕ × PacketView} picked (Ok next)) c.in-Some.is c.in-Ok.ensures.none in
+    absurd (subst (λ (p : Option Pick). IsNoneFor {A = ℕ × PacketView} p (Ok (Some (c.in-Some.channel, c.in-Some.packet)))) none some)
+
+pub returns-in-Err-send-clause-lasts : goal.returns-in-Err-send-clause-lasts
+returns-in-Err-send-clause-lasts g c = ap (λ (v : InMemory). v.lasts) c.grant.follows.holds-at-none.others
+
+pub returns-in-Err-clause-reads : goal.returns-in-Err-clause-reads
+returns-in-Err-clause-reads g c table number stands =
+    reads_retrieved c.args.vault.now (g.B.Board.means.flash c.args.board.now) table number c.requires.ready.sound stands
+
+pub returns-in_default-clause-reads : goal.returns-in_default-clause-reads
+returns-in_default-clause-reads g c table number stands =
+    reads_retrieved c.args.vault.now (g.B.Board.means.flash c.args.board.now) table number c.requires.ready.sound stands
+
+pub returns-in-Ok-send-clause-reads : goal.returns-in-Ok-send-clause-reads
+returns-in-Ok-send-clause-reads g c table number stands =
+    reads_retrieved c.args.vault.now (g.B.Board.means.flash c.args.board.now) table number c.requires.ready.sound stands
+
+pub returns-in-Err-send-clause-reads : goal.returns-in-Err-send-clause-reads
+returns-in-Err-send-clause-reads g c table number stands =
+    reads_retrieved c.args.vault.now (g.B.Board.means.flash c.args.board.now) table number c.requires.ready.sound stands

@@ -1,10 +1,8 @@
-use Rattle.std.proofs.Common.{◌≡◌, ℕ, List, length, map, refl, sym, ◌∙◌, ap, subst}
+use Rattle.std.proofs.Common.{List, length, refl, sym, ◌∙◌, ap, subst}
 use Rattle.octet_fields.proofs.Results.{on_err}
 use Rattle.pst_model.specs.Contents.{content_report}
-use Rattle.pst_model.specs.Replies.{replies_from}
-use Rattle.pst_model.specs.Reports.{count_behind, verdict_report}
+use Rattle.pst_model.specs.Reports.{count_behind}
 use Rattle.pst_model.specs.Rules.{Output}
-use Rattle.pst_model.specs.Table.{Table}
 use Rattle.pus_request.specs.View.{listed}
 use Rattle.report_lines.proofs.Counted.{counted_on}
 use Rattle.report_lines.proofs.Sendings.{breaks_early, breaks_on, lines_on}

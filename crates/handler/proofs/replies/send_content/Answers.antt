@@ -1,4 +1,4 @@
-use Rattle.std.proofs.Common.{◌≡◌, ℕ, List, [], ◌∷◌, length, take, sym, ◌∙◌, ap, subst, arith}
+use Rattle.std.proofs.Common.{List, take, sym, ◌∙◌, subst}
 use Rattle.octet_fields.proofs.Results.{on_err}
 use Rattle.pst_model.specs.Replies.{replies_from}
 use Rattle.pst_model.specs.Reports.{Report}

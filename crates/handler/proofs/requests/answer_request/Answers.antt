@@ -1,4 +1,4 @@
-use Rattle.std.proofs.Common.{◌≡◌, ℕ, true, sym, subst}
+use Rattle.std.proofs.Common.{ℕ, true, sym, subst}
 use Rattle.std.specs.Prelude.{is_ok}
 use Rattle.pst_model.specs.Rules.{Step}
 use Rattle.pst_model.specs.Table.{Table}

@@ -1,4 +1,4 @@
-use Rattle.std.proofs.Common.{◌≡◌, ℕ, true, List, length, map, take, refl, sym, ◌∙◌, ap, subst}
+use Rattle.std.proofs.Common.{◌≡◌, ℕ, List, map, take, ◌∙◌, ap, subst}
 use Rattle.board.specs.Meaning.{TellsFlash}
 use Rattle.board.specs.Moments.{LeavesOnly}
 use Rattle.control_defs.specs.declared.instructions.Instruction.{Instruction}

@@ -1,5 +1,4 @@
-use Rattle.std.proofs.Common.{◌≡◌, ℕ, true, List, [], ◌∷◌, refl, sym, ◌∙◌, ap, subst}
-use Rattle.pst_model.specs.Output.{output_line}
+use Rattle.std.proofs.Common.{ℕ, [], ◌∷◌, refl, sym, ◌∙◌, subst}
 use Rattle.pst_model.specs.Replies.{reply}
 use Rattle.pst_model.specs.Reports.{report_packet, verdict_report}
 use Rattle.report_lines.proofs.Counted.{counted_one}

@@ -1,4 +1,3 @@
-use Rattle.std.proofs.Common.{◌≡◌}
 use Rattle.vault.proofs.change_tests.request.Goals as goal
 
 -- the device was just made, so an opened vault stands for its table

@@ -14,6 +14,8 @@ use Rattle.vault.specs.Changing.{IsKept, journal_pages}
 use Rattle.vault.proofs.changing.add.Given.{Over}
 use Rattle.vault.proofs.changing.add.Goals as goal
 use Rattle.vault.proofs.changing.add.Goals.{After-write_change-size}
+use Rattle.std.specs.Prelude.{OnOk}
+use Rattle.vault.specs.Changing.{RoomAfter}
 
 text_is : (g : Over) (c : After-write_change-size g) → take c.write_change-size.result c.write_change-size.new.out ≡ change_octets (change_of c.args.change.now)
 text_is g c = front_written c.args.buffer.now c.write_change-size.new.out _ c.write_change-size.result c.write_change-size.ensures.written (let at = c.write_change-size.ensures.place in omega (arith, at))
@@ -52,3 +54,8 @@ returns-clause-either g c told before after kept applied =
     let entry = take c.write_change-size.result c.write_change-size.new.out in
     c.add_entry.ensures.either told before after kept
     (change_folds before after (change_of c.args.change.now) entry c.requires.fits (text_is g (goal.at.returns-clause-either g c).After-write_change-size) applied)
+
+pub returns-clause-room_after : goal.returns-clause-room_after
+returns-clause-room_after g c =
+    subst (λ (l : List ℕ). OnOk c.add_entry.result (RoomAfter (1 + payload_pages (length l)) c.args.journal.now.room c.add_entry.new.journal.room))
+    (text_is g (goal.at.returns-clause-room_after g c).After-write_change-size) c.add_entry.ensures.room_after

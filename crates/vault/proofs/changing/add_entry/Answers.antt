@@ -1,4 +1,4 @@
-use Rattle.std.proofs.Common.{◌≡◌, inl, inr, ℕ, List, Some, subst, arith}
+use Rattle.std.proofs.Common.{◌≡◌, inl, inr, Some, subst, arith}
 use Rattle.board.specs.Device.{Device}
 use Rattle.board.specs.Flash.{IsContent}
 use Rattle.board.specs.Meaning.{TellsFlash}
@@ -16,6 +16,11 @@ use Rattle.vault.proofs.InImages.{either_more, entry_firm}
 use Rattle.vault.proofs.Stands.{ok_gives}
 use Rattle.vault.specs.Changing.{HoldsOne, IsKept, journal_pages}
 use Rattle.vault.proofs.changing.add_entry.Goals as goal
+use Rattle.std.proofs.Common.{length, ◌+◌, ap}
+use Rattle.commit_gate.specs.Entries.{payload_pages}
+use Rattle.meta_journal.specs.Standing.{Kept, with_less_room}
+use Rattle.vault.proofs.RoomAfters.{room_less}
+use Rattle.vault.specs.Changing.{RoomAfter}
 
 pub returns-clause-holds : goal.returns-clause-holds
 returns-clause-holds g c =
@@ -86,3 +91,11 @@ returns-clause-is_firm g c =
     (TellsFlash means old → AllFirm (means.flash new))
     c.commit.ensures.flash
     (λ is told. entry_firm (half_base (half_of j.root)) (room_from j) entry (means.flash old) (means.flash new) (is told))
+
+pub returns-clause-room_after : goal.returns-clause-room_after
+returns-clause-room_after g c =
+    let old = c.args.journal.now in
+    let new = c.commit.new.self in
+    let pages = 1 + payload_pages (length c.args.entry.now) in
+    ok_gives c.commit.result (new ≡ with_less_room (length c.args.entry.now) old) (RoomAfter pages old.room new.room) c.commit.ensures.kept
+    (λ is. room_less pages old.room new.room c.requires.room (ap (λ (j : Kept). j.room) is))

@@ -15,6 +15,9 @@ use Rattle.vault.proofs.changing.make_room.Goals as goal
 use Rattle.vault.proofs.changing.make_room.Goals.{After-switch, After-write_checkpoint-size}
 use Rattle.board.proofs.Stops.{started}
 use Rattle.meta_journal.proofs.Switched.{standing_holds}
+use Rattle.vault.proofs.RoomAfters.{room_same, room_switched}
+use Rattle.vault.proofs.Stands.{ok_gives}
+use Rattle.vault.specs.Changing.{RoomAfter}
 
 is_short : (room work : ℕ) → room < 21 → if_short room work ≡ work
 is_short room work less = rw (lt-ltb room 21 less) refl
@@ -118,3 +121,17 @@ returns-then-room-ge-LONGEST-clause-touches g c =
     let old = c.args.board.now in
     touching.touches_most means (touching.touches_none means journal_pages old (λ image told left. g.met.B.Board.images_now old image told left))
     (omega arith) (omega arith) (omega arith)
+
+pub returns-clause-room_after : goal.returns-clause-room_after
+returns-clause-room_after g c =
+    let old = c.args.journal.now.room in
+    let new = c.switch.new.self.room in
+    let room = c.room.ensures.room in
+    let less = c.if-room-ge-LONGEST.false in
+    ok_gives c.switch.result (432 ≤ new) (RoomAfter 0 old new) c.switch.ensures.room (λ is. room_switched old new (omega arith) is)
+
+pub returns-then-room-ge-LONGEST-clause-room_after : goal.returns-then-room-ge-LONGEST-clause-room_after
+returns-then-room-ge-LONGEST-clause-room_after g c =
+    let room = c.room.ensures.room in
+    let more = c.if-room-ge-LONGEST.true in
+    room_same c.args.journal.now.room (omega arith)

@@ -1,8 +1,8 @@
-use Rattle.std.proofs.Common.{◌≡◌, inl, ℕ, List, Some, ap, subst, sym, arith}
+use Rattle.std.proofs.Common.{◌≡◌, inl, inr, ℕ, Some, ap, subst, sym, arith}
 use Rattle.board.specs.Device.{Device}
 use Rattle.board.specs.Meaning.{TellsFlash}
 use Rattle.board.specs.Moments.{LeavesOnly}
-use Rattle.board.proofs.Stops.{goes_on}
+use Rattle.board.proofs.Stops.{goes_on, weaker}
 use Rattle.board.proofs.Touching as touching
 use Rattle.board.proofs.Works.{tells_too}
 use Rattle.meta_journal.specs.Journals.{HoldsEither}
@@ -11,10 +11,15 @@ use Rattle.store_directory.specs.Directory.{Directory}
 use Rattle.store_directory.specs.Kept.{change_of}
 use Rattle.vault.proofs.InImages.{before_room, either_since}
 use Rattle.vault.proofs.Stands.{ok_gives}
-use Rattle.vault.specs.Changing.{IsKept, journal_pages}
+use Rattle.vault.specs.Changing.{HoldsOne, IsKept, journal_pages}
 use Rattle.vault.proofs.changing.save.Given.{Over}
 use Rattle.vault.proofs.changing.save.Goals as goal
 use Rattle.vault.proofs.changing.save.Goals.{After-add}
+use Rattle.std.proofs.Common.{length, ◌+◌}
+use Rattle.commit_gate.specs.Entries.{payload_pages}
+use Rattle.store_directory.specs.Entries.{change_octets}
+use Rattle.vault.proofs.RoomAfters.{room_then}
+use Rattle.vault.specs.Changing.{RoomAfter}
 
 pub returns-clause-touches : goal.returns-clause-touches
 returns-clause-touches g c =
@@ -51,6 +56,19 @@ pub returns-clause-either : goal.returns-clause-either
 returns-clause-either g c told after kept applied =
     after_room g (goal.at.returns-clause-either g c).After-add told after kept (c.in_ok-make_room.ensures.holds told kept) applied
 
+pub returns-clause-any_moment : goal.returns-clause-any_moment
+returns-clause-any_moment g c told after kept applied =
+    let means = g.B.Board.means in
+    let old = c.args.board.now in
+    let blocks = (means.device old).blocks in
+    let d = c.args.directory.now.directory in
+    weaker means old c.add.new.board (HoldsOne blocks d after) (HoldsEither blocks journal_pages (means.flash old) d after)
+    (after_room g (goal.at.returns-clause-any_moment g c).After-add told after kept (c.in_ok-make_room.ensures.holds told kept) applied)
+    (λ image is. elim is [
+      | inl was ↦ inl was.holds
+      | inr now ↦ inr now.holds
+    ])
+
 pub returns-clause-holds : goal.returns-clause-holds
 returns-clause-holds g c =
     let means = g.B.Board.means in
@@ -71,3 +89,12 @@ returns-clause-holds g c =
     subst (λ (n : ℕ). IsKept n after (means.flash new)) by
     (run (tells_too same told) d after
     (subst (λ (n : ℕ). IsKept n d (means.flash mid)) (sym by) (c.in_ok-make_room.ensures.holds told kept)) applied))
+
+pub returns-clause-room_after : goal.returns-clause-room_after
+returns-clause-room_after g c =
+    let pages = 1 + payload_pages (length (change_octets (change_of c.args.change.now))) in
+    let old = c.args.journal.now.room in
+    let mid = c.make_room.new.journal.room in
+    let new = c.add.new.journal.room in
+    ok_gives c.add.result (RoomAfter pages mid new) (RoomAfter pages old new) c.add.ensures.room_after
+    (λ added. room_then c.in_ok-make_room.ensures.room_after c.in_ok-make_room.ensures.room added)

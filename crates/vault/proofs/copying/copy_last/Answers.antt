@@ -1,4 +1,4 @@
-use Rattle.std.proofs.Common.{◌≡◌, ◌≤◌, arith}
+use Rattle.std.proofs.Common.{arith}
 use Rattle.image_table.specs.Table.{table_rule}
 use Rattle.store_write.proofs.Lying.{elsewhere, in_place}
 use Rattle.store_write.proofs.RangesOn.{last_fits}

@@ -1,4 +1,4 @@
-use Rattle.std.proofs.Common.{◌≡◌, ◌∙◌, ap}
+use Rattle.std.proofs.Common.{◌∙◌, ap}
 use Rattle.request_laws.specs.Counting.{reports_made}
 use Rattle.vault.proofs.Prepared.{prepared}
 use Rattle.vault.proofs.preparing.prepare.Goals as goal

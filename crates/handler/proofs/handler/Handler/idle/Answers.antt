@@ -1,12 +1,11 @@
 use Rattle.std.proofs.Common.{◌≡◌, ◌∙◌, true, ap, subst, rules}
-use Rattle.vault.specs.Memory.{InMemory}
 use Rattle.handler.proofs.Handlers.{idle_as}
 use Rattle.handler.specs.Carrying.{Held, IsReady}
 use Rattle.handler.proofs.handler.Handler.idle.Goals as goal
 use Rattle.handler.proofs.handler.Handler.idle.Goals.{in-Err, in-Ok}
 
-pub returns : goal.returns
-returns g c =
+pub returns-clause-answers : goal.returns-clause-answers
+returns-clause-answers g c =
     let means = g.B.Board.means in
     let old = c.args.board.now in
     let was : c.self.inside.is_open ≡ true = ap (λ (h : Held). h.is_open) c.self.view_is ∙ c.requires.is_open in

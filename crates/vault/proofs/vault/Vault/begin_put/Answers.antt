@@ -1,6 +1,6 @@
-use Rattle.std.proofs.Common.{◌≡◌, ◌≤◌, ◌<◌, ◌+◌, ◌%◌, ◌^◌, ◌++◌, ℕ, true, false, List, [], ◌∷◌, All, length, refl, sym, ◌∙◌, ap, subst, arith}
+use Rattle.std.proofs.Common.{◌≡◌, ◌<◌, ◌+◌, ◌%◌, ◌++◌, ℕ, false, List, [], ◌∷◌, All, refl, sym, ◌∙◌, ap, subst, arith}
 use Rattle.std.specs.Option.{IsSome}
-use Rattle.pst_model.specs.Table.{Store, Stored}
+use Rattle.pst_model.specs.Table.{Stored}
 use Rattle.put_laws.proofs.Clocks.{clock_applies}
 use Rattle.space_packet.specs.View.{octets_of}
 use Rattle.store_directory.specs.Changes.{Clock}

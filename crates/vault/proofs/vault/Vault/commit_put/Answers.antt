@@ -1,4 +1,4 @@
-use Rattle.std.proofs.Common.{◌≡◌, ℕ, true, List, length, Some, sym, ◌∙◌, ap, subst}
+use Rattle.std.proofs.Common.{◌≡◌, true, length, Some, sym, subst}
 use Rattle.board.specs.Device.{Device}
 use Rattle.board.specs.Flash.{IsContent}
 use Rattle.board.specs.Meaning.{TellsFlash}
@@ -6,7 +6,6 @@ use Rattle.board.specs.Moments.{LeavesOnly}
 use Rattle.board.proofs.Works.{tells_too}
 use Rattle.image_table.specs.Standing.{HoldsEitherTable}
 use Rattle.image_table.specs.Table.{table_by}
-use Rattle.meta_journal.specs.Standing as journals
 use Rattle.pst_model.specs.Table.{Stored, Table}
 use Rattle.vault.proofs.Committed.{IsSettled, put_sound}
 use Rattle.vault.proofs.CommittedPuts.{commit_leaves, commit_stands}
@@ -18,6 +17,10 @@ use Rattle.vault.specs.declared.vault.Vault.TheInside.{Inside}
 use Rattle.vault.proofs.vault.Vault.commit_put.Given.{Over}
 use Rattle.vault.proofs.vault.Vault.commit_put.Goals as goal
 use Rattle.vault.proofs.vault.Vault.commit_put.Goals.{After-add_entry, After-settle}
+use Rattle.std.proofs.Common.{◌+◌, ◌≤◌, arith}
+use Rattle.commit_gate.specs.Entries.{payload_pages}
+use Rattle.vault.proofs.RoomAfters.{room_most}
+use Rattle.vault.specs.Changing.{RoomAfter}
 
 -- a vault by its fields
 abbrev fields : Inside → InMemory
@@ -90,3 +93,9 @@ returns-in-Ok-clause-stands g c told start first stored has table next stands by
     c.settle.new.pool (settled g at) c.add_entry.new.journal
     (subst (λ (v : Device). IsContent v.blocks (means.flash new).content) same (g.met.B.Board.content_pages new (tells_too same told)))
     (c.add_entry.ensures.touches.others told) c.in-Ok.ensures.holds (c.in-Ok.ensures.stands told) (c.in-Ok.ensures.is_firm told)
+
+pub returns-in-Ok-clause-room : goal.returns-in-Ok-clause-room
+returns-in-Ok-clause-room g c =
+    let pages = 1 + payload_pages (length c.octets.result.now) in
+    let few : pages ≤ 7 = omega (arith, c.octets.ensures.longest) in
+    room_most (subst (λ (v : InMemory). RoomAfter pages v.journal.room c.add_entry.new.journal.room) c.self.view_is c.in-Ok.ensures.room_after) few

@@ -23,6 +23,10 @@ use Rattle.vault.specs.Standing.{StandsFor}
 use Rattle.vault.proofs.vault.Vault.enter.Given.{Over}
 use Rattle.vault.proofs.vault.Vault.enter.Goals as goal
 use Rattle.vault.proofs.vault.Vault.enter.Goals.{After-save}
+use Rattle.std.proofs.Common.{◌+◌}
+use Rattle.commit_gate.specs.Entries.{payload_pages}
+use Rattle.store_directory.specs.Entries.{change_octets}
+use Rattle.vault.specs.Changing.{RoomAfter}
 
 -- the vault as it was, by its fields
 abbrev was : (g : Over) (c : After-save g) → InMemory
@@ -175,3 +179,8 @@ invariant_of-self g c =
       λ still. sound_entered (was g at.After-save) c.apply.new.self c.save.new.journal (sound_was g at.After-save) c.len.ensures.kept
           (next_is g at.After-save c.apply.result c.apply.new.self c.apply.ensures.ok c.apply.ensures.unfit c.apply.ensures.memory c.apply.ensures.err c.len.ensures.within).moves,
     )
+
+pub returns-in-Ok-clause-room : goal.returns-in-Ok-clause-room
+returns-in-Ok-clause-room g c =
+    let pages = 1 + payload_pages (length (change_octets (change_of c.args.change.now))) in
+    subst (λ (v : InMemory). RoomAfter pages v.journal.room c.save.new.journal.room) c.self.view_is c.in-Ok.ensures.room_after

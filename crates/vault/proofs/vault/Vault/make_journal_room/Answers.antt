@@ -1,4 +1,4 @@
-use Rattle.std.proofs.Common.{◌≡◌, ℕ, sym, ◌∙◌, ap, subst}
+use Rattle.std.proofs.Common.{◌≡◌, sym, ◌∙◌, ap, subst}
 use Rattle.board.specs.Device.{Device}
 use Rattle.board.specs.Flash.{IsContent}
 use Rattle.board.specs.Meaning.{TellsFlash}
@@ -12,6 +12,7 @@ use Rattle.vault.specs.Standing.{StandsFor}
 use Rattle.vault.proofs.vault.Vault.make_journal_room.Given.{Over}
 use Rattle.vault.proofs.vault.Vault.make_journal_room.Goals as goal
 use Rattle.vault.proofs.vault.Vault.make_journal_room.Goals.{After-make_room}
+use Rattle.vault.specs.Changing.{RoomAfter}
 
 -- the vault as it was, by its fields
 abbrev was : (g : Over) (c : After-make_room g) → InMemory
@@ -64,3 +65,7 @@ returns-in-Ok-clause-stands g c told table stands =
     c.make_room.new.journal c.wear-wear.ensures.lawful
     (subst (λ (v : Device). IsContent v.blocks (means.flash new).content) same (g.met.B.Board.content_pages new (tells_too same told)))
     (c.make_room.ensures.touches.others told) c.in-Ok.ensures.holds (c.in-Ok.ensures.stands told)
+
+pub returns-in-Ok-clause-room_after : goal.returns-in-Ok-clause-room_after
+returns-in-Ok-clause-room_after g c =
+    subst (λ (v : InMemory). RoomAfter 0 v.journal.room c.make_room.new.journal.room) c.self.view_is c.in-Ok.ensures.room_after

@@ -1,6 +1,5 @@
-use Rattle.std.proofs.Common.{◌≡◌, ◌≤◌, ◌<◌, ◌+◌, ℕ, length, refl, sym, ◌∙◌, ap, subst, arith}
+use Rattle.std.proofs.Common.{◌≡◌, ◌+◌, ℕ, length, refl, ◌∙◌, ap, subst, arith}
 use Rattle.board.specs.Counts.{Rose}
-use Rattle.space_packet.specs.View.{octets_of}
 use Rattle.store_put.specs.Recording.{stored_by}
 use Rattle.vault.proofs.OfferedSoFar.{on_err, put_closed, put_many, put_within, quiet_more}
 use Rattle.vault.specs.Memory.{InMemory}

@@ -1,4 +1,4 @@
-use Rattle.std.proofs.Common.{◌≡◌, ◌≤◌, ℕ, length}
+use Rattle.std.proofs.Common.{◌≡◌, ◌≤◌, length}
 use Rattle.store_put.specs.Recording.{stored_by}
 use Rattle.vault.specs.Memory.{InMemory}
 use Rattle.vault.specs.Storing.{HasPut}

@@ -1,4 +1,4 @@
-use Rattle.std.proofs.Common.{◌≡◌, ℕ, true, List, All, refl, sym, ◌∙◌, ap, ap₂, subst}
+use Rattle.std.proofs.Common.{◌≡◌, List, All, refl, sym, ◌∙◌, ap, ap₂, subst}
 use Rattle.control_defs.specs.Patterns.{any_covers}
 use Rattle.space_packet.specs.View.{octets_of}
 use Rattle.store_directory.specs.Directory.{Listed}

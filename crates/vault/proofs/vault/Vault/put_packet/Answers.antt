@@ -1,5 +1,4 @@
-use Rattle.std.proofs.Common.{◌≡◌, ◌≤◌, ℕ, List, length, Some, refl, sym, ◌∙◌, ap, subst}
-use Rattle.std.specs.Prelude.{OnOk}
+use Rattle.std.proofs.Common.{◌≡◌, ◌≤◌, ℕ, length, Some, refl, sym, ◌∙◌, ap, subst}
 use Rattle.board.specs.Device.{Device}
 use Rattle.board.specs.Meaning.{TellsFlash}
 use Rattle.board.specs.Moments.{LeavesOnly}
@@ -17,10 +16,11 @@ use Rattle.vault.specs.Memory.{InMemory}
 use Rattle.vault.specs.Putting.{HasPutAll}
 use Rattle.vault.specs.Standing.{StandsFor}
 use Rattle.vault.specs.Storing.{HasPut, IsFreshened, OffersQuietly}
-use Rattle.vault.specs.declared.vault.Vault.TheInside.{Inside}
 use Rattle.vault.proofs.vault.Vault.put_packet.Given.{Over}
 use Rattle.vault.proofs.vault.Vault.put_packet.Goals as goal
 use Rattle.vault.proofs.vault.Vault.put_packet.Goals.{After-begin_put-time, After-offer_to_all}
+use Rattle.vault.proofs.RoomAfters.{room_then}
+use Rattle.vault.specs.Changing.{RoomAfter}
 
 abbrev stored : (g : Over) (c : After-begin_put-time g) → Stored
 stored g c = record { time = c.begin_put-time.result; octets = octets_of c.args.packet }
@@ -201,3 +201,14 @@ returns-in-Err-clause-work g c =
     let w = goal.at.returns-in-Err-clause-work g c in
     late_within c.args.self.now c.make_journal_room.new.self c.in_ok-make_journal_room.ensures.after g.B.Board.means c.args.board.now c.make_journal_room.new.board
     c.offer_to_all.new.board (octets_of c.args.packet) c.make_journal_room.ensures.touches (c.in-Err.ensures.fails c.make_journal_room.new.board c.make_journal_room.new.self (first_put g w.After-begin_put-time))
+
+pub returns-in-Ok-clause-room : goal.returns-in-Ok-clause-room
+returns-in-Ok-clause-room g c =
+    let w = goal.at.returns-in-Ok-clause-room g c in
+    let was = c.args.self.now.journal.room in
+    let put = c.offer_to_all.new.self in
+    let now = c.commit_put.new.self.journal.room in
+    let has = c.in-Ok.ensures.goes c.make_journal_room.new.board c.make_journal_room.new.self (first_put g w.After-begin_put-time) in
+    ok_gives c.commit_put.result (RoomAfter 7 put.journal.room now) (RoomAfter 7 was now) c.commit_put.ensures.room
+    (λ added. room_then c.in_ok-make_journal_room.ensures.room_after c.in_ok-make_journal_room.ensures.room
+    (subst (λ (v : InMemory). RoomAfter 7 v.journal.room now) has.memory.others added))

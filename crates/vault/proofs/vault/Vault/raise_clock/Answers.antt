@@ -1,5 +1,5 @@
-use Rattle.std.proofs.Common.{◌≡◌, ◌≤◌, ◌<◌, ◌+◌, ◌^◌, ℕ, true, refl, sym, ◌∙◌, ap, subst, arith}
-use Rattle.std.specs.Prelude.{OnOk, is_ok, max}
+use Rattle.std.proofs.Common.{◌≡◌, ℕ, ◌∙◌, ap, subst, arith}
+use Rattle.std.specs.Prelude.{is_ok, max}
 use Rattle.board.specs.Counts.{Rose}
 use Rattle.board.specs.Meaning.{TellsFlash}
 use Rattle.board.proofs.Works.{works_most}
@@ -11,11 +11,13 @@ use Rattle.vault.proofs.Arrivals.{after_entry, clock_becomes, clock_entered}
 use Rattle.vault.proofs.Freshened.{idle_freshened}
 use Rattle.vault.proofs.Outcomes.{flash_causes, flash_differs, flash_spares}
 use Rattle.vault.proofs.PutPackets.{on_ok}
+use Rattle.vault.proofs.RoomAfters.{room_most}
 use Rattle.vault.proofs.Stands.{ok_gives}
 use Rattle.vault.specs.Arriving.{IsFreshenedBy}
-use Rattle.vault.specs.Changing.{Becomes, CanBeEntered}
+use Rattle.vault.specs.Changing.{Becomes, CanBeEntered, RoomAfter}
 use Rattle.vault.specs.Memory.{InMemory, IsSound}
 use Rattle.vault.specs.Standing.{StandsFor}
+use Rattle.vault.specs.Storing.{AreFreshFor}
 use Rattle.vault.proofs.vault.Vault.raise_clock.Goals as goal
 
 pub enter-requires-clause-journal : goal.enter-requires-clause-journal
@@ -67,6 +69,10 @@ returns g c =
       same = c.enter.ensures.touches.same;
       work = λ fresh table view is shown.
           works_most c.enter.ensures.touches.work (omega arith) (omega arith) (omega arith) (omega arith);
+      idle_work = λ idle. c.enter.ensures.touches.work;
+      room =
+          ok_gives r (RoomAfter 2 was.journal.room now.journal.room) (AreFreshFor packet was → RoomAfter 7 was.journal.room now.journal.room) c.enter.ensures.room
+          (λ room fresh. room_most room (omega arith));
       mismatch = flash_differs r c.enter.ensures.fault (TellsFlash means old);
       no_fault = flash_spares r c.enter.ensures.fault (faults_now ≡ faults) c.enter.ensures.no_fault;
       cause = flash_causes r c.enter.ensures.fault (Rose faults faults_now) c.enter.ensures.cause;

@@ -98,7 +98,7 @@ returns-clause-granted g c =
     let pick = c.in-Some.pick in
     let picked = picked_here g c in
     granted_by g.B.Board.means c.args.self.now c.args.board.now (sound_here g at) c.load.new.board c.pass.new.board c.load.new.self c.pass.new.self pick picked
-    c.load.ensures.reads c.in_ok-load.ensures.after c.in_ok-pass.ensures.after.others c.in_ok-pass.ensures.after.directory c.in_ok-pass.ensures.sound
+    c.load.ensures.reads c.in_ok-load.ensures.after c.in_ok-pass.ensures.after.others c.in_ok-pass.ensures.after.directory c.in_ok-pass.ensures.room c.in_ok-pass.ensures.sound
     c.in_ok-pass.ensures.journal c.in_ok-pass.ensures.stands
 
 pub returns-clause-channel : goal.returns-clause-channel

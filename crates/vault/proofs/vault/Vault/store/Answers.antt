@@ -1,4 +1,4 @@
-use Rattle.std.proofs.Common.{◌≡◌, ℕ, Err, sym, ◌∙◌, ap, subst}
+use Rattle.std.proofs.Common.{◌≡◌, ℕ, sym, ◌∙◌, ap, subst}
 use Rattle.board.specs.Counts.{Rose}
 use Rattle.board.specs.Device.{Device}
 use Rattle.board.specs.Flash.{IsImage}

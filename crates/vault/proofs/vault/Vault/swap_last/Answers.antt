@@ -1,4 +1,4 @@
-use Rattle.std.proofs.Common.{◌≡◌, ◌<◌, ◌≤◌, ℕ, Bool, true, false, All, List, length, drop, Some, Ok, Err, set, sym, ◌∙◌, ap, subst, arith}
+use Rattle.std.proofs.Common.{◌≡◌, ◌<◌, ℕ, Bool, true, false, All, List, length, drop, Some, Ok, Err, set, sym, ◌∙◌, ap, subst, arith}
 use Rattle.std.specs.Prelude.{⊤, slice_get}
 use Rattle.block_pool.specs.Blocks.{blocks_of, is_free}
 use Rattle.board.specs.Flash.{IsContent}

@@ -1,5 +1,6 @@
-use Rattle.std.proofs.Common.{◌≡◌, ℕ, true, length, refl, sym, ◌∙◌, ap, subst}
-use Rattle.std.specs.Prelude.{OnErr, OnOk, is_ok}
+use Rattle.std.proofs.Common.{◌≡◌, ℕ, length, refl, sym, ◌∙◌, ap, subst}
+use Rattle.std.proofs.lemmas.Bool.{false≢true}
+use Rattle.std.specs.Prelude.{is_ok}
 use Rattle.board.specs.Counts.{Rose}
 use Rattle.board.specs.Device.{Device}
 use Rattle.board.specs.Meaning.{TellsFlash}
@@ -16,9 +17,10 @@ use Rattle.vault.proofs.PutPackets.{failed_held, last_held}
 use Rattle.vault.proofs.Stands.{ok_gives}
 use Rattle.vault.proofs.Unlinked.{puts_leave_link}
 use Rattle.vault.specs.Arriving.{IsFreshenedBy}
+use Rattle.vault.specs.Changing.{RoomAfter}
 use Rattle.vault.specs.Memory.{InMemory}
 use Rattle.vault.specs.Standing.{StandsFor}
-use Rattle.vault.specs.Storing.{IsFreshened}
+use Rattle.vault.specs.Storing.{AreFreshFor, IsFreshened}
 use Rattle.vault.proofs.vault.Vault.take_in.Goals as goal
 
 pub put_packet-requires-clause-is_open : goal.put_packet-requires-clause-is_open
@@ -85,6 +87,11 @@ returns-in-Ok g c =
       work = λ fresh.
           let nothing = c.renew_for.ensures.nothing fresh in
           renewed_within means old mid new was first packet nothing.0 nothing.1 c.put_packet.ensures.work;
+      idle_work = λ idle. absurd (false≢true (sym c.requires.busy ∙ idle));
+      room =
+          ok_gives r (RoomAfter 7 first.journal.room now.journal.room) (AreFreshFor packet was → RoomAfter 7 was.journal.room now.journal.room)
+          c.put_packet.ensures.room
+          (λ room fresh. subst (λ (v : InMemory). RoomAfter 7 v.journal.room now.journal.room) (c.renew_for.ensures.nothing fresh).1 room);
       mismatch = flash_differs r c.put_packet.ensures.fault (TellsFlash means old);
       no_fault =
           flash_spares r c.put_packet.ensures.fault (faults_now ≡ faults)
@@ -115,6 +122,8 @@ returns-in-Err g c =
       link = c.renew_for.ensures.link;
       same = c.renew_for.ensures.same;
       work = λ fresh. none_within means old mid was packet (c.renew_for.ensures.nothing fresh).0;
+      idle_work = λ idle. absurd (false≢true (sym c.requires.busy ∙ idle));
+      room = tt;
       mismatch = c.in-Err.ensures.mismatch;
       no_fault = c.in-Err.ensures.no_fault;
       cause = c.in-Err.ensures.cause;
