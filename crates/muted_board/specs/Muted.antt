@@ -40,3 +40,7 @@ module _ {B : Type 0} (inner : BoardMeaning B) where
     sent = λ muted t. [];
     counts = counts_of;
   }
+
+-- the name of the reference to the other board
+abbrev pub name_of : {B : Type 0} → MutedBoard B → ℕ
+name_of muted = muted.board.ghost_name

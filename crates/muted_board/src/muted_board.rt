@@ -26,13 +26,13 @@ pub struct MutedBoard<'a, B: Board> {
 }
 
 impl<'a, B: Board> MutedBoard<'a, B> {
-    ghost use Rattle.muted_board.specs.Muted.{board_of, counts_of};
+    ghost use Rattle.muted_board.specs.Muted.{board_of, counts_of, name_of};
 
     /// The board over another one. No line was taken yet.
     pub fn new(board: &'a mut B) -> MutedBoard<'a, B>
         ensures over { board_of result ≡ board.old }
         ensures no_lines { (counts_of B.means result).sends ≡ 0 }
-        ensures same_reference { result.board.ghost_name ≡ board.entry.ghost_name }
+        ensures same_reference { name_of result ≡ board.entry.ghost_name }
     {
         MutedBoard { board, sends: 0 }
     }

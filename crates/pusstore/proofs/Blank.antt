@@ -1,12 +1,10 @@
 -- A new device in memory holds no table.
-use Rattle.std.proofs.Common.{◌≡◌, ◌≤◌, ℕ, true, List, refl, sym, ◌∙◌, ap, arith}
+use Rattle.std.proofs.Common.{◌≡◌, ◌≤◌, ℕ, true, List, refl, ◌∙◌, ap, arith}
 use Rattle.board.specs.declared.memory.MemBoard.{MemBoard}
-use Rattle.board.specs.Device.{Device}
 use Rattle.board.specs.Flash.{blank}
 use Rattle.board.specs.Memory.{IsNewBoard, device_of, flash_of, memory_means}
 use Rattle.station.specs.Station.{HeldNone}
 use Rattle.meta_journal.proofs.Folds.{none_chosen}
-use Rattle.root_vote.specs.declared.votes.Choice.{Choice}
 use Rattle.root_vote.specs.declared.votes.Choice.TheVariants.{Nobody}
 use Rattle.root_vote.specs.Roots.{choice_by, choice_of, root_in}
 use Rattle.vault.proofs.Stands.{no_directory}

@@ -1,10 +1,12 @@
 -- What a session on a device in a file counts.
-use Rattle.std.proofs.Common.{◌≡◌}
-use Rattle.board.specs.Meaning.{BoardMeaning, SourceMeaning}
+use Rattle.std.proofs.Common.{◌≡◌, ◌⊎◌, inl, inr, List}
+use Rattle.board.specs.Meaning.{BoardMeaning, SourceMeaning, TellsLink}
+use Rattle.pst_model.specs.Command.{Command}
 use Rattle.station.specs.declared.ending.Ending.{Ending}
-use Rattle.station.specs.declared.ending.Ending.TheVariants.{NotHeld}
+use Rattle.station.specs.declared.ending.Ending.TheVariants.{Done, LinkFault, NotHeld}
+use Rattle.station.specs.Generating.{Generates, IsUnsent}
 use Rattle.station.specs.Station.{Lists, Runs, SendsNone, WritesNothing}
-use Rattle.pusstore.specs.Filing.{IsRefused, IsUnwritten}
+use Rattle.pusstore.specs.Filing.{IsRefused, IsUnwritten, SendsOnce}
 
 module _ {B : Type 0} (means : BoardMeaning B) (old new : B) (ending : Ending) where
   unwritten_by : WritesNothing means old new → IsUnwritten (means.counts old) (means.counts new)
@@ -22,3 +24,14 @@ module _ {B : Type 0} (means : BoardMeaning B) (old new : B) (ending : Ending) w
   pub run_refused : {S : Type 0} (input : SourceMeaning S) (origin source : S) → Runs means input old new origin source ending → ending ≡ NotHeld
       → IsRefused (means.counts old) (means.counts new)
   run_refused input origin source runs is = refused_by (runs.refused is).0.writes (runs.refused is).0.sends
+
+  pub sends_once : (commands : List Command) → Generates means commands old new ending → SendsOnce (means.counts old) (means.counts new) ending
+  sends_once commands generates = record { most = generates.calls; none = λ undone unlinked. by undone unlinked generates.ends }
+    where
+      by : (ending ≡ Done → ⊥) → (ending ≡ LinkFault → ⊥)
+          → (ending ≡ Done) ⊎ (ending ≡ LinkFault) ⊎ (IsUnsent ending × ((means.counts new).sends ≡ (means.counts old).sends)
+          × (TellsLink means old → means.sent new (means.moment new) ≡ means.sent old (means.moment old)))
+          → (means.counts new).sends ≡ (means.counts old).sends
+      by undone unlinked (inl is) = absurd (undone is)
+      by undone unlinked (inr (inl is)) = absurd (unlinked is)
+      by undone unlinked (inr (inr (is, sends, sent))) = sends

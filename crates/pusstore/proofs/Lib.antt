@@ -2,3 +2,4 @@ pub mod Blank
 pub mod Printed
 pub mod Silent
 pub mod Filed
+pub mod Generated

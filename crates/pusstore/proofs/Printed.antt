@@ -1,5 +1,5 @@
 -- What a session on the table after a format prints, of what its device was sent.
-use Rattle.std.proofs.Common.{◌≡◌, ◌⊎◌, ℕ, Bool, true, false, List, [], ◌++◌, Some, None, refl, sym, ◌∙◌, ap, subst, arith}
+use Rattle.std.proofs.Common.{◌≡◌, ◌⊎◌, ℕ, Bool, true, false, List, [], ◌++◌, refl, sym, ◌∙◌, ap, subst, arith}
 use Rattle.std.specs.Prelude.{IsTrue, Option, length, take, ◌-◌}
 use Rattle.std.specs.Io.KnownBytes.{Appends}
 use Rattle.board.specs.declared.memory.MemBoard.{MemBoard}
@@ -12,9 +12,8 @@ use Rattle.station.specs.declared.ending.Ending.{Ending}
 use Rattle.station.specs.declared.ending.Ending.TheVariants.{BadLine, BadWords, Done, FlashFault, LinkFault, Mismatch, NoMemory, NotHeld, SourceFault}
 use Rattle.station.specs.Reading.{EndsReading, read_of, taken_of, text_limit, whole_read}
 use Rattle.station.specs.Session.{Carries, EndsHolding, EndsSending, SendsAll}
-use Rattle.station.specs.Station.{Begins, Begun, NeverBegan, Unbegun}
+use Rattle.station.specs.Station.{Begins, Begun, Unbegun}
 use Rattle.pst_model.specs.Command.{Command}
-use Rattle.pst_model.specs.Run.{lines_of}
 use Rattle.pst_model.specs.Table.{after_format}
 use Rattle.pst_model.specs.Text.{commands_of}
 use Rattle.pusstore.specs.Printing.{EndsPrinting, IsOfDevice, PrintsDone, PrintsFront, lines_for}

@@ -1,14 +1,18 @@
 -- What a session prints of its text.
-use Rattle.std.specs.Prelude.{◌≡◌, ◌⊎◌, ◌++◌, ℕ, List, [], Option, Some, None, ⊤}
+use Rattle.std.specs.Prelude.{◌≡◌, ◌⊎◌, ◌++◌, ℕ, List, [], length, Option, Some, None, ⊤}
 use Rattle.std.specs.Io.KnownBytes.{Appends}
 use Rattle.board.specs.Moments.{IsPrefixOf}
 use Rattle.station.specs.declared.ending.Ending.{Ending}
 use Rattle.station.specs.declared.ending.Ending.TheVariants.{BadLine, BadWords, Done, FlashFault, LinkFault, NoMemory, NotHeld, SourceFault}
+use Rattle.station.specs.declared.tally.Tally.{Tally}
+use Rattle.station.specs.Summary.{summary_line}
+use Rattle.station.specs.Tallies.{IsTallyOf}
 use Rattle.station.specs.Reading.{Reads, read_of, taken_of, text_limit, whole_read}
 use Rattle.pst_model.specs.Command.{Command}
 use Rattle.pst_model.specs.Run.{lines_of, run}
 use Rattle.pst_model.specs.Table.{after_format}
 use Rattle.pst_model.specs.Text.{bad_read, commands_of, first_bad}
+use Rattle.turn_laws.specs.Turns.{outputs_of}
 
 -- the lines for commands on the table after a format, on a device of this many blocks
 abbrev pub lines_for : (blocks : ℕ) → List Command → List ℕ
@@ -66,6 +70,29 @@ EndsFormat before after FlashFault = Appends before after []
 EndsFormat before after NoMemory = Appends before after []
 EndsFormat before after LinkFault = ⊤
 EndsFormat before after _ = ⊥
+
+-- Generated traffic: at Done its line, with the numbers of these commands on the table after a format; a
+-- prefix of some line if memory was missing.
+
+pub record PrintsSummary (blocks : ℕ) (commands : List Command) (before after : Option (List ℕ))
+    : Type 0 where
+  pub tally : Tally
+  pub counted : IsTallyOf (length commands) (outputs_of blocks after_format commands) tally
+  pub printed : Appends before after (summary_line tally)
+
+pub record PrintsPart (before after : Option (List ℕ)) : Type 0 where
+  pub tally : Tally
+  pub front : List ℕ
+  pub prefix : IsPrefixOf front (summary_line tally)
+  pub printed : Appends before after front
+
+abbrev pub EndsGenerate : (blocks : ℕ) → List Command → (before after : Option (List ℕ)) → Ending
+    → Type 0
+EndsGenerate blocks commands before after Done = PrintsSummary blocks commands before after
+EndsGenerate blocks commands before after FlashFault = Appends before after []
+EndsGenerate blocks commands before after NoMemory = PrintsPart before after
+EndsGenerate blocks commands before after LinkFault = ⊤
+EndsGenerate blocks commands before after _ = ⊥
 
 -- a session on a device that holds no table
 abbrev pub EndsUnheld : (before after : Option (List ℕ)) → Ending → Type 0

@@ -1,12 +1,13 @@
 // Sessions from what is read to what is written: all of the program but its words, its streams and its
 // file.
-ghost use Rattle.std.specs.Prelude.{◌≡◌, ◌≢◌, ◌⊎◌, ◌≤◌, ◌↔◌, IsTrue};
+ghost use Rattle.std.specs.Prelude.{◌≡◌, ◌≢◌, ◌⊎◌, ◌≤◌, ◌↔◌, ℕ, IsTrue};
 ghost use Rattle.board.specs.Counts.{Rose};
-ghost use Rattle.station.specs.Words.{AreFormat, AreFresh, AreKnown, AreList, AreOfText, AreRun, texts_of};
+ghost use Rattle.station.specs.Words.{AreFormat, AreFresh, AreGenerate, AreKnown, AreList, AreOfText, AreRun, texts_of};
 ghost use Rattle.image_board.specs.FileBoard.{counts_of};
 ghost use Rattle.image_board.specs.Reading.{octets_left};
-ghost use Rattle.pusstore.specs.Filing.{IsRefused, IsUnwritten};
-ghost use Rattle.pusstore.specs.Printing.{EndsFormat, EndsPrinting, EndsRefused, EndsTaking, EndsUnheld};
+ghost use Rattle.pusstore.specs.Filing.{IsRefused, IsUnwritten, SendsOnce};
+ghost use Rattle.pusstore.specs.Printing.{EndsFormat, EndsGenerate, EndsPrinting, EndsRefused, EndsTaking, EndsUnheld};
+ghost use Rattle.traffic_gen.specs.Traffic.{traffic_of};
 
 use crate::outcome::{outcome, print_sent};
 use board::MemBoard;
@@ -31,6 +32,9 @@ pub fn session<R: Reader + Drop, W: Write>(
         (W.contents output.old) (W.contents output.new) result }
     ensures format { AreFormat (texts_of words.now)
         → EndsFormat (W.contents output.old) (W.contents output.new) result }
+    ensures generate { (number : ℕ) (count : ℕ) → AreGenerate number count (texts_of words.now)
+        → EndsGenerate blocks (traffic_of number count)
+        (W.contents output.old) (W.contents output.new) result }
     ensures unheld { AreRun (texts_of words.now) ⊎ AreList (texts_of words.now)
         → EndsUnheld (W.contents output.old) (W.contents output.new) result }
     ensures words { ¬ (AreKnown (texts_of words.now))
@@ -60,6 +64,8 @@ pub fn file_session<R: Reader + Drop, W: Write>(
         → EndsTaking (octets_left (R.remaining input)) result }
     ensures format { AreFormat (texts_of words.now)
         → (result ≡ Ending.Done) ⊎ (result ≡ Ending.FlashFault) }
+    ensures generate { (number : ℕ) (count : ℕ) → AreGenerate number count (texts_of words.now)
+        → SendsOnce (counts_of board.old) (counts_of board.new) result }
     ensures list { AreList (texts_of words.now)
         → IsUnwritten (counts_of board.old) (counts_of board.new) }
     ensures refused { AreRun (texts_of words.now) ⊎ AreList (texts_of words.now)

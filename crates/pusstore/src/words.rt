@@ -24,7 +24,9 @@ WORD is one of:
   run     carries out the text of standard input on the table that the device holds
   fresh   formats the device, and carries out the text
   format  formats the device
-  list    prints the table that the device holds";
+  list    prints the table that the device holds
+  generate NUMBER COUNT
+          formats the device, carries out generated traffic of COUNT arrivals, and prints one line of counts";
 
 /// What the program is called for.
 #[derive(Drop)]

@@ -1,5 +1,5 @@
 -- What one command more, or an ending, makes of the table, the images and what was sent.
-use Rattle.std.proofs.Common.{◌≡◌, ◌≤◌, ℕ, ◌+◌, List, [], ◌∷◌, ◌++◌, Ok, length, length-append, refl, sym, ◌∙◌, ap, subst, arith, append_assoc}
+use Rattle.std.proofs.Common.{◌≡◌, ◌≤◌, ℕ, ◌+◌, List, [], ◌∷◌, ◌++◌, length, length-append, sym, ◌∙◌, ap, subst, arith, append_assoc}
 use Rattle.std.proofs.lemmas.List.{append-nil}
 use Rattle.board.specs.Counts.{RoseBy}
 use Rattle.board.specs.Device.{Device}
@@ -15,7 +15,7 @@ use Rattle.handler.specs.Carrying.{BreaksOff, CarriesOut, GoesInStep, HasSent, I
 use Rattle.station.specs.declared.ending.Ending.{Ending}
 use Rattle.station.specs.declared.ending.Ending.TheVariants.{FlashFault, LinkFault}
 use Rattle.station.specs.Carrying.{EndsOnTable, OnTable}
-use Rattle.station.specs.Session.{BreaksWithin, EndsHolding, EndsSending, HoldsAll, LeavesNow, SendsAll}
+use Rattle.station.specs.Session.{EndsHolding, EndsSending, HoldsAll, LeavesNow, SendsAll}
 use Rattle.station.specs.Turns.{HoldsPrefix, InTurn}
 use Rattle.station.proofs.Turns.{either_next, holds_same, next_table, prefix_done, prefix_more, prefix_step, turn_between, turn_more, turn_step}
 use Rattle.image_table.specs.Standing.{HoldsEitherTable, HoldsTable}
@@ -91,22 +91,24 @@ module _ {B : Type 0} (means : BoardMeaning B) (first : B) (table : Table) where
     abbrev so_far : Table
     so_far = (run blocks table done).table
 
-    pub holds_all : HoldsAll means blocks so_far board
-    holds_all = record {
+    pub holds_all : IsSound vault → HoldsAll means blocks so_far board
+    holds_all sound = record {
       content = subst (λ (n : ℕ). HoldsTable n so_far (means.flash board).content) same on.stands.holds;
       leaves = on.leaves;
+      later = λ image is. subst (λ (n : ℕ). HoldsTable n so_far image) same
+          (image_holds vault (means.flash board) so_far image sound on.stands (subst (λ (n : ℕ). IsImage n (means.flash board) image) (sym same) is));
     }
 
     -- an ending behind the commands, whatever others were read
-    pub ends_still : (others : List Command) (ending : Ending)
+    pub ends_still : IsSound vault → (others : List Command) (ending : Ending)
         → (HoldsAll means blocks so_far board → EndsHolding means blocks table done others board ending)
         → (SendsAll means first board (outputs_of blocks table done) → EndsSending means blocks table done others first board ending)
         → EndsOnTable means first board table done others ending
-    ends_still others ending holding sending = record {
+    ends_still sound others ending holding sending = record {
       moments = λ link. runs.weaker means first board _ _ (on.moments link) (λ octets gains. gains_behind blocks table done others before octets gains);
       in_turn = λ link. shows_weaker means first board _ _ (on.in_turn link) (λ octets image turn. turn_more blocks table done others before octets image turn);
       prefix = weaker means first board _ _ on.prefix (λ image held. prefix_more blocks table done others image held);
-      holding = holding holds_all;
+      holding = holding (holds_all sound);
       sending = sending on.sends;
     }
 

@@ -6,7 +6,7 @@ use Rattle.board.specs.Meaning.{BoardMeaning, SourceMeaning}
 use Rattle.station.specs.declared.ending.Ending.{Ending}
 use Rattle.station.specs.declared.ending.Ending.TheVariants.{BadLine, BadWords, Done, FlashFault, LinkFault, Mismatch, NoMemory, NotHeld, SourceFault}
 use Rattle.station.specs.Reading.{EndsAsTold, EndsReading, text_limit}
-use Rattle.station.specs.Session.{Carries, EndsHolding}
+use Rattle.station.specs.Session.{EndsHolding}
 use Rattle.station.specs.Station.{Begins, Begun, HasCauses, Unbegun}
 use Rattle.pst_model.specs.declared.faults.LineFault.{LineFault}
 use Rattle.pst_model.specs.Command.{Command}

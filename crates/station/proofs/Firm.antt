@@ -1,12 +1,10 @@
 -- A flash of which nothing is loose: each image that a stop leaves holds what the flash holds.
-use Rattle.std.proofs.Common.{◌≡◌, ◌<◌, ◌≤◌, ℕ, ◌+◌, ◌*◌, List, true, false, refl, sym, ◌∙◌, arith}
+use Rattle.std.proofs.Common.{◌≡◌, ◌≤◌, ℕ, ◌+◌, ◌*◌, List, refl, sym, ◌∙◌, arith}
 use Rattle.board.specs.Flash.{Flash, IsContent, IsImage}
 use Rattle.board.specs.Touches.{KeptElsewhere, no_page}
 use Rattle.image_table.specs.Standing.{HoldsTable}
-use Rattle.image_table.specs.Table.{SameFrame, in_records, table_of}
 use Rattle.image_table.proofs.DataPages.{data_page}
 use Rattle.image_table.proofs.Frames.{table_loads, table_same}
-use Rattle.meta_journal.specs.Directories.{directory_of}
 use Rattle.meta_journal.specs.Halves.{half_base}
 use Rattle.meta_journal.specs.Standing.{AllFirm}
 use Rattle.pst_model.specs.Table.{Table}

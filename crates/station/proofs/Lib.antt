@@ -12,3 +12,11 @@ pub mod Numbers
 pub mod Completeness
 pub mod Answered
 pub mod Rehearsals
+pub mod Tallying
+pub mod Fronts
+pub mod Traffic
+pub mod Summaries
+pub mod Summed
+pub mod Workings
+pub mod CommandWorking
+pub mod SessionWorking

@@ -1,10 +1,9 @@
 -- What a session that lists does.
-use Rattle.std.proofs.Common.{◌≡◌, ◌≢◌, ◌≤◌, ◌⊎◌, inl, inr, ℕ, ◌+◌, List, [], ◌++◌, Some, None, refl, sym, ◌∙◌, ap, subst, arith}
+use Rattle.std.proofs.Common.{◌≡◌, ◌≢◌, ◌⊎◌, inl, inr, ℕ, List, ◌++◌, Some, refl, sym, ◌∙◌, ap, subst, arith}
 use Rattle.board.specs.Counts.{Rose}
-use Rattle.board.specs.Device.{Device}
 use Rattle.board.specs.Flash.{Flash, IsImage}
 use Rattle.board.specs.Meaning.{BoardMeaning, TellsFlash, TellsLink}
-use Rattle.board.specs.Moments.{GainsFront, LeavesOnly, SendsNothing, SendsOnly}
+use Rattle.board.specs.Moments.{GainsFront, SendsNothing, SendsOnly}
 use Rattle.board.proofs.Runs as runs
 use Rattle.board.proofs.Runs.{gains_none, links_too}
 use Rattle.board.proofs.Stops as stops
@@ -14,11 +13,10 @@ use Rattle.station.specs.declared.ending.Ending.TheVariants.{BadWords, Done, Fla
 use Rattle.station.specs.Endings.{IsListed, IsOfListing, ending_by}
 use Rattle.station.specs.Station.{Held, HeldNone, IsCaused, Lists, SendsListing, SendsNone, WritesNothing}
 use Rattle.station.proofs.Quiet.{BoardLaws, IsQuiet, held_on, none_before, none_on, not_none, sends_quiet, stands_on, writes_quiet}
-use Rattle.image_table.specs.Standing.{HoldsTable}
 use Rattle.image_table.specs.Table.{table_of}
 use Rattle.listing.specs.declared.fault.ListingFault.{ListingFault}
 use Rattle.listing.specs.declared.fault.ListingFault.TheVariants as faults
-use Rattle.listing.specs.Faults.{IsCauseOf, IsNoMismatch, TellsDifference}
+use Rattle.listing.specs.Faults.{IsNoMismatch, TellsDifference}
 use Rattle.listing.specs.Lists as sent
 use Rattle.listing.specs.Lists.{ToldTable}
 use Rattle.meta_journal.specs.Standing.{AllFirm}

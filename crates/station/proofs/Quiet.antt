@@ -1,12 +1,11 @@
 -- What opening a table, a barrier or a format does before a session.
-use Rattle.std.proofs.Common.{◌≡◌, ◌≢◌, ◌≤◌, ◌⊎◌, inl, inr, ℕ, ◌+◌, List, [], ◌++◌, Some, None, length, refl, sym, ◌∙◌, ap, subst, arith}
+use Rattle.std.proofs.Common.{◌≡◌, ◌≢◌, ◌≤◌, ◌⊎◌, inl, inr, ℕ, ◌+◌, ◌*◌, List, [], ◌++◌, Some, None, length, refl, sym, ◌∙◌, ap, subst, arith}
 use Rattle.std.proofs.lemmas.Option.{same_Some}
 use Rattle.std.specs.Prelude.{IsTrue}
-use Rattle.board.specs.Counts.{Counts, Rose}
 use Rattle.board.specs.Device.{Device}
 use Rattle.board.specs.Flash.{Flash, IsContent, IsImage}
-use Rattle.board.specs.Meaning.{BoardMeaning, SourceMeaning, TellsFlash, TellsLink}
-use Rattle.board.specs.Moments.{LeavesOnly, SendsNothing}
+use Rattle.board.specs.Meaning.{BoardMeaning, SourceMeaning, TellsFlash}
+use Rattle.board.specs.Moments.{LeavesOnly}
 use Rattle.board.specs.Reads.{ReadsOnly}
 use Rattle.board.specs.Touches.{Touches, no_page}
 use Rattle.board.proofs.Runs.{links_too, sends_nothing_on}
@@ -14,21 +13,26 @@ use Rattle.board.proofs.Stops.{goes_on, weaker}
 use Rattle.board.proofs.Works.{tells_too}
 use Rattle.handler.specs.Carrying.{IsBoardOf}
 use Rattle.station.specs.declared.ending.Ending.{Ending}
-use Rattle.station.specs.declared.ending.Ending.TheVariants.{BadWords, FlashFault, LinkFault, Mismatch, NoMemory, NotHeld, SourceFault}
+use Rattle.station.specs.declared.ending.Ending.TheVariants.{BadWords, Done, FlashFault, LinkFault, NoMemory, NotHeld}
 use Rattle.station.specs.Carrying.{Ended, EndsOnTable}
 use Rattle.station.specs.Opening.{Opened}
-use Rattle.station.specs.Reading.{EndsReading, read_of, taken_of}
+use Rattle.station.specs.Reading.{EndsReading, read_of}
 use Rattle.station.specs.Session.{EndsHolding, EndsSending, HoldsAll, SendsAll}
-use Rattle.station.specs.Station.{Begins, Begun, HasCauses, Held, HeldNone, Keeps, NeverBegan, Refuses, Runs, SendsNone, Unbegun, WritesNothing}
+use Rattle.station.specs.Station.{HasCauses, Keeps, Refuses, SendsNone, WritesNothing}
 use Rattle.station.proofs.Firm.{firm_holds, still_firm}
-use Rattle.station.proofs.Since.{carries_from, carries_now, causes_since, ends_here, ends_since, keeps_since}
+use Rattle.station.specs.declared.tally.Tally.{Tally}
+use Rattle.station.specs.Tallies.{IsTallyOf, no_tally}
+use Rattle.station.proofs.Tallying.{tally_none}
+use Rattle.turn_laws.specs.Turns.{outputs_of}
+use Rattle.station.proofs.Since.{causes_since, ends_here, ends_since, keeps_since}
 use Rattle.station.proofs.Taken.{IfTold, taken_none, unread}
+use Rattle.station.proofs.Workings.{works_since}
+use Rattle.station.specs.Working.{AreEmpty, NoneIsStale, WorksFor}
 use Rattle.image_table.specs.Standing.{HoldsTable}
 use Rattle.image_table.specs.Table.{table_of}
-use Rattle.meta_journal.specs.Halves.{format_pages}
 use Rattle.meta_journal.specs.Standing.{AllFirm}
 use Rattle.pst_model.specs.Command.{Command}
-use Rattle.pst_model.specs.Table.{Table, after_format}
+use Rattle.pst_model.specs.Table.{Table}
 use Rattle.vault.specs.Memory.{InMemory}
 use Rattle.vault.specs.Standing.{StandsFor}
 
@@ -130,6 +134,11 @@ module _ {B : Type 0} (means : BoardMeaning B) (old mid : B) where
       leaves = λ image left.
           let leaves = leaves_quiet told firm table held in
           subst (λ (n : ℕ). HoldsTable n table image) (sym blocks_same) (leaves.each (means.moment mid) image leaves.later (omega arith) left);
+      later = λ image is.
+          subst (λ (n : ℕ). HoldsTable n table image) (sym blocks_same)
+          (firm_holds blocks (means.flash old) table image laws.least (laws.content told) firm held
+          (subst (λ (n : ℕ). IsImage n (means.flash old) image) blocks_same
+          (subst (λ (flash : Flash). IsImage (means.device mid).blocks flash image) (quiet.writes.flash told firm) is)));
     }
 
     -- what such a run makes of a session that ends behind it without a command
@@ -171,11 +180,13 @@ module _ {B : Type 0} (means : BoardMeaning B) (old mid : B) where
         refuses_on refuses = record { writes = writes_on refuses.writes; sends = sends_quiet refuses.sends; unread = refuses.unread }
 
         -- a table that was opened, and the text that was carried out on it
-        pub opened_on : (ending : Ending) (vault : InMemory) → (TellsFlash means old → AllFirm (means.flash old)) → (means.counts mid).flash_faults ≡ (means.counts old).flash_faults
+        pub opened_on : (ending : Ending) (tally : Tally) (vault : InMemory) → (TellsFlash means old → AllFirm (means.flash old)) → (means.counts mid).flash_faults ≡ (means.counts old).flash_faults
             → vault.blocks ≡ blocks → (TellsFlash means old → (table : Table) × (table_of blocks (means.flash old).content ≡ Some table))
             → (TellsFlash means old → AllFirm (means.flash old) → (table : Table) × StandsFor vault (means.flash mid) table)
-            → Ended means input mid new origin source vault ending → Opened means input old new origin source ending
-        opened_on ending vault firm unfailed many holds stands ended = record {
+            → (means.counts mid).reads ≤ (means.counts old).reads + 512 * blocks
+            → ((table : Table) → StandsFor vault (means.flash mid) table → AreEmpty table.stores → NoneIsStale vault)
+            → Ended means input mid new origin source vault ending tally → Opened means input old new origin source ending tally
+        opened_on ending tally vault firm unfailed many holds stands reads fresh ended = record {
           known = ended.known;
           done = ended.done;
           others = ended.others;
@@ -187,6 +198,14 @@ module _ {B : Type 0} (means : BoardMeaning B) (old mid : B) where
           keeps = keeps_since means input old mid new origin source ending quiet.same ended.keeps;
           on_table = λ told table held. ends_since means old mid new quiet.same quiet.sends.unsent quiet.sends.uncalled table ended.done ended.others ending
               (ended.on_table (tells_too quiet.same told) table (stands_on vault many told (stands told (firm told)) table held)) (leaves_quiet told (firm told) table held);
+          counted = λ told table held. subst (λ (n : ℕ). IsTallyOf (length ended.done) (outputs_of n table ended.done) tally) blocks_same
+              (ended.counted (tells_too quiet.same told) table (stands_on vault many told (stands told (firm told)) table held));
+          work = λ is told table held empty plain.
+              let begun = stands_on vault many told (stands told (firm told)) table held in
+              let work = ended.work is (tells_too quiet.same told) table begun (fresh table begun empty) plain in
+              works_since (512 * blocks) 0 (means.counts old)
+              (subst (λ (n : ℕ). WorksFor n table ended.done 0 0 (means.counts mid) (means.counts new)) blocks_same work)
+              (omega (arith, reads)) (omega (arith, quiet.writes.programs));
           unheld = λ told none. absurd (not_none (holds told).0 (sym (holds told).1 ∙ none));
           refused = λ is. absurd (ended.held is);
         }
@@ -199,14 +218,14 @@ module _ {B : Type 0} (means : BoardMeaning B) (old mid : B) where
       keeps_quiet = record { device = quiet.same; tells = refl; takes_from = omega arith; takes_to = λ told. omega arith }
 
       -- no table was opened
-      pub opened_early : (ending : Ending) → ending ≢ BadWords → (TellsFlash means old → AllFirm (means.flash old))
+      pub opened_early : (ending : Ending) (tally : Tally) → tally ≡ no_tally → ending ≢ BadWords → (TellsFlash means old → AllFirm (means.flash old))
           → (IsTrue (input.tells origin) → EndsReading (input.left origin) (input.left origin) [] ending) → HasCauses means input old mid origin origin ending
           → (TellsFlash means old → (table : Table) → Holds table → (others : List Command)
           → (HoldsAll means (means.device mid).blocks table mid → EndsHolding means (means.device mid).blocks table [] others mid ending)
           × (SendsAll means mid mid [] → EndsSending means (means.device mid).blocks table [] others mid mid ending))
           → ((ending ≡ NotHeld) ⊎ (ending ≡ FlashFault) ⊎ (ending ≡ NoMemory)) → (ending ≡ NotHeld → TellsFlash means old → table_of blocks (means.flash old).content ≡ None)
-          → Opened means input old mid origin origin ending
-      opened_early ending known firm reading causes ends refusal none =
+          → Opened means input old mid origin origin ending tally
+      opened_early ending tally empty known firm reading causes ends refusal none =
           let others : IfTold (input.tells origin) (λ (list : List Command). [] ++ list ≡ read_of (input.left origin) (input.left origin)) = unread (input.tells origin) (input.left origin) in
           record {
             known = known;
@@ -221,6 +240,8 @@ module _ {B : Type 0} (means : BoardMeaning B) (old mid : B) where
             on_table = λ told table held.
                 let by = ends told table held others.list in
                 ends_quiet told (firm told) table held others.list ending by.0 by.1;
+            counted = λ told table held. tally_none tally empty;
+            work = λ is. absurd (unfinished refusal is);
             unheld = λ told unheld. (refusal, refuses_quiet);
             refused = λ is. (refuses_quiet, none is);
           }
@@ -229,3 +250,8 @@ module _ {B : Type 0} (means : BoardMeaning B) (old mid : B) where
           unbroken (inl is) link = cc
           unbroken (inr (inl is)) link = cc
           unbroken (inr (inr is)) link = cc
+
+          unfinished : ((ending ≡ NotHeld) ⊎ (ending ≡ FlashFault) ⊎ (ending ≡ NoMemory)) → ending ≡ Done → ⊥
+          unfinished (inl is) done = cc
+          unfinished (inr (inl is)) done = cc
+          unfinished (inr (inr is)) done = cc

@@ -1,6 +1,5 @@
 -- A session in memory: what holds of any board and source, of those that were just made.
-use Rattle.std.proofs.Common.{◌≡◌, ◌≤◌, ◌<◌, ◌⊎◌, ℕ, false, List, Option, Some, None, length, inl, inr, refl, sym, ◌∙◌, ap, subst, arith}
-use Rattle.std.specs.Prelude.{IsTrue}
+use Rattle.std.proofs.Common.{◌≡◌, ◌≤◌, ℕ, false, List, Option, Some, None, inl, inr, refl, sym, ◌∙◌, ap, subst, arith}
 use Rattle.board.specs.declared.memory.MemBoard.{MemBoard}
 use Rattle.board.specs.declared.memory_source.MemSource.{MemSource}
 use Rattle.board.specs.Counts.{Counts, Rose}
@@ -11,14 +10,15 @@ use Rattle.board.specs.MemorySource.{IsNewSource, faults_of, left_of, text_means
 use Rattle.station.specs.declared.ending.Ending.{Ending}
 use Rattle.station.specs.declared.ending.Ending.TheVariants.{BadWords}
 use Rattle.station.specs.Reading.{EndsAsTold}
-use Rattle.station.specs.Rehearsal.{Begin, IsTableIn, IsWithoutTable, NoneFailed, RehearsedFormat, RehearsedFresh, RehearsedList, RehearsedNone, RehearsedRun, blocks_in}
-use Rattle.station.specs.Station.{BeginsFresh, Formats, Held, HeldNone, Lists, Runs, SendsListing}
+use Rattle.station.specs.Generating.{Generates}
+use Rattle.station.specs.Rehearsal.{Begin, IsTableIn, IsWithoutTable, NoneFailed, RehearsedFormat, RehearsedFresh, RehearsedGenerate, RehearsedList, RehearsedNone, RehearsedRun, blocks_in}
+use Rattle.station.specs.Station.{BeginsFresh, Formats, Held, HeldNone, Lists, Runs}
 use Rattle.station.proofs.Firm.{firm_holds}
 use Rattle.station.proofs.Quiet.{not_none}
 use Rattle.image_table.specs.Standing.{HoldsTable}
 use Rattle.image_table.specs.Table.{table_of}
-use Rattle.meta_journal.specs.Standing.{AllFirm}
 use Rattle.pst_model.specs.Table.{Table}
+use Rattle.traffic_gen.specs.Traffic.{traffic_of}
 
 -- a count that is 0 did not rise
 unrisen : (old new : ℕ) → old ≡ 0 → new ≡ 0 → Rose old new → ⊥
@@ -99,6 +99,10 @@ module _ (image text : List ℕ) (board : MemBoard) (source : MemSource) (least 
 
     pub rehearsed_format : Formats memory_means board board' ending → source' ≡ source → RehearsedFormat image text ending board' source'
     rehearsed_format formats unread = record { begin = begin_of; formats = formats; unread = unread }
+
+    pub rehearsed_generate : (number count : ℕ) → Generates memory_means (traffic_of number count) board board' ending → source' ≡ source
+        → RehearsedGenerate number count image text ending board' source'
+    rehearsed_generate number count generates unread = record { begin = begin_of; generates = generates; unread = unread }
 
     pub rehearsed_list : Lists memory_means board board' ending → source' ≡ source → RehearsedList image text ending board' source'
     rehearsed_list lists unread = record {

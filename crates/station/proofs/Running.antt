@@ -1,5 +1,5 @@
 -- A session behind a barrier, or behind a format.
-use Rattle.std.proofs.Common.{◌≡◌, ◌≤◌, ◌⊎◌, inl, inr, ℕ, ◌+◌, List, [], ◌++◌, refl, sym, ◌∙◌, ap, subst, arith}
+use Rattle.std.proofs.Common.{◌≡◌, ◌≤◌, inl, inr, ℕ, List, [], ◌++◌, refl, sym, subst, arith}
 use Rattle.std.specs.Prelude.{IsTrue}
 use Rattle.board.specs.Counts.{Rose}
 use Rattle.board.specs.Device.{Device}
@@ -7,22 +7,23 @@ use Rattle.board.specs.Meaning.{BoardMeaning, SourceMeaning, TellsFlash}
 use Rattle.board.specs.Touches.{Touches}
 use Rattle.board.proofs.Works.{tells_too}
 use Rattle.station.specs.declared.ending.Ending.{Ending}
-use Rattle.station.specs.declared.ending.Ending.TheVariants.{FlashFault, LinkFault, Mismatch, NoMemory, NotHeld, SourceFault}
+use Rattle.station.specs.declared.ending.Ending.TheVariants.{FlashFault}
+use Rattle.station.specs.declared.tally.Tally.{Tally}
 use Rattle.station.specs.Opening.{Opened}
 use Rattle.station.specs.Reading.{Reads, read_of}
-use Rattle.station.specs.Station.{Begins, BeginsFresh, Begun, HasCauses, Held, IsCaused, Keeps, NeverBegan, Runs, Unbegun}
+use Rattle.station.specs.Station.{BeginsFresh, Begun, HasCauses, Held, Runs, Unbegun}
 use Rattle.station.proofs.Quiet.{BoardLaws, IsQuiet, ends_quiet, held_on, leaves_quiet, none_before, none_on, refuses_on, refuses_quiet}
 use Rattle.station.proofs.Since.{carries_from, carries_now, ends_since}
 use Rattle.station.proofs.Taken.{IfTold, taken_none, unread}
 use Rattle.image_table.specs.Standing.{HoldsTable}
 use Rattle.meta_journal.specs.Halves.{format_pages}
 use Rattle.pst_model.specs.Command.{Command}
-use Rattle.pst_model.specs.Table.{Table, after_format}
+use Rattle.pst_model.specs.Table.{after_format}
 
 module _ {B S : Type 0} (means : BoardMeaning B) (input : SourceMeaning S) (old mid new : B) (origin source : S) (ending : Ending) where
   -- a session behind a barrier
   pub runs_opened : IsQuiet means old mid → BoardLaws means old → (TellsFlash means old → means.moment old ≤ means.moment mid)
-      → Opened means input mid new origin source ending → Runs means input old new origin source ending
+      → {tally : Tally} → Opened means input mid new origin source ending tally → Runs means input old new origin source ending
   runs_opened quiet laws later opened = record {
     session = λ told firm table held. carries_now means input old new origin source table opened.done opened.others ending opened.read opened.reading opened.broken
         (ends_since means old mid new quiet.same quiet.sends.unsent quiet.sends.uncalled table opened.done opened.others ending
@@ -41,13 +42,13 @@ module _ {B S : Type 0} (means : BoardMeaning B) (input : SourceMeaning S) (old 
   }
 
   -- what it read
-  pub reads_opened : Opened means input mid new origin source ending → IsTrue (input.tells origin) → Reads (input.left origin) (input.left source) ending
+  pub reads_opened : {tally : Tally} → Opened means input mid new origin source ending tally → IsTrue (input.tells origin) → Reads (input.left origin) (input.left source) ending
   reads_opened opened told = record { done = opened.done; others = opened.others; read = opened.read told; reading = opened.reading told }
 
   -- a session behind a format
   pub fresh_opened : Touches means format_pages 12 5 8 old mid
       → (TellsFlash means old → HoldsTable (means.device old).blocks after_format (means.flash mid).content)
-      → Opened means input mid new origin source ending → BeginsFresh means input old new origin source ending
+      → {tally : Tally} → Opened means input mid new origin source ending tally → BeginsFresh means input old new origin source ending
   fresh_opened touches holds opened told = Begun (means.moment mid)
       (carries_from means old mid new touches.same touches.unsent touches.work.sends after_format opened.done opened.others ending
       (opened.on_table (tells_too touches.same told) after_format held)

@@ -1,11 +1,11 @@
 -- A session seen from before a run of calls that sent nothing.
-use Rattle.std.proofs.Common.{◌≡◌, ◌≢◌, ◌≤◌, ℕ, ◌+◌, List, [], ◌∷◌, ◌++◌, length, refl, sym, ◌∙◌, ap, subst, arith, inl}
+use Rattle.std.proofs.Common.{◌≡◌, ◌≤◌, ℕ, List, [], ◌++◌, length, sym, ◌∙◌, ap, subst, arith}
 use Rattle.std.proofs.lemmas.List.{append-nil}
 use Rattle.std.specs.Prelude.{IsTrue}
-use Rattle.board.specs.Counts.{Counts, Rose, RoseBy}
+use Rattle.board.specs.Counts.{RoseBy}
 use Rattle.board.specs.Device.{Device}
-use Rattle.board.specs.Meaning.{BoardMeaning, SourceMeaning, TellsFlash, TellsLink}
-use Rattle.board.specs.Moments.{GainsFront, LeavesOnly, SendsNothing, SendsOnly, Shows}
+use Rattle.board.specs.Meaning.{BoardMeaning, SourceMeaning, TellsLink}
+use Rattle.board.specs.Moments.{GainsFront, LeavesOnly, SendsNothing, SendsOnly}
 use Rattle.board.proofs.Runs as runs
 use Rattle.board.proofs.Runs.{gains_none, links_too, rose_since}
 use Rattle.board.proofs.Shown.{shows_both, shows_first, shows_on}
@@ -15,7 +15,7 @@ use Rattle.station.specs.declared.ending.Ending.{Ending}
 use Rattle.station.specs.declared.ending.Ending.TheVariants.{BadLine, BadWords, Done, FlashFault, LinkFault, Mismatch, NoMemory, NotHeld, SourceFault}
 use Rattle.station.specs.Carrying.{EndsOnTable}
 use Rattle.station.specs.Reading.{EndsReading, HasNext, read_of}
-use Rattle.station.specs.Session.{BreaksWithin, Carries, EndsHolding, EndsSending, HoldsAll, LeavesNow, SendsAll}
+use Rattle.station.specs.Session.{BreaksWithin, Carries, EndsHolding, EndsSending, HoldsAll, SendsAll}
 use Rattle.station.specs.Station.{HasCauses, IsCaused, Keeps}
 use Rattle.station.specs.Turns.{HoldsPrefix, InTurn}
 use Rattle.station.proofs.Turns.{prefix_done, turn_between}

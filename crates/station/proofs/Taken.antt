@@ -2,7 +2,7 @@
 use Rattle.std.proofs.Common.{◌≡◌, ℕ, Bool, true, false, List, [], ◌∷◌, ◌++◌, refl, sym, ◌∙◌, ap}
 use Rattle.std.proofs.lemmas.Bool.{false≢true}
 use Rattle.std.specs.Prelude.{IsTrue}
-use Rattle.station.specs.Reading.{read_of, taken_of, text_limit, whole_read}
+use Rattle.station.specs.Reading.{read_of, taken_of, text_limit}
 use Rattle.pst_model.specs.Command.{Command}
 use Rattle.pst_model.specs.Text.{commands_of, commands_read}
 use Rattle.session_text.specs.Progress.{HasRead}

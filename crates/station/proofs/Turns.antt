@@ -1,11 +1,9 @@
 -- Images that go with what was sent, at each step of a session.
-use Rattle.std.proofs.Common.{◌≡◌, ◌≤◌, ℕ, ◌+◌, List, [], ◌∷◌, ◌++◌, Some, length, length-append, inl, inr, refl, sym, ◌∙◌, ap, subst, arith}
-use Rattle.std.specs.Prelude.{Option, ◌⊎◌}
+use Rattle.std.proofs.Common.{◌≡◌, ℕ, ◌+◌, List, ◌∷◌, ◌++◌, Some, length, length-append, inl, inr, sym, ◌∙◌, ap, subst, arith}
 use Rattle.board.specs.Moments.{GainsFront}
 use Rattle.handler.specs.Carrying.{IsInStep}
 use Rattle.station.specs.Turns.{HoldsPrefix, InTurn}
 use Rattle.image_table.specs.Standing.{HoldsEitherTable, HoldsTable}
-use Rattle.image_table.specs.Table.{table_of}
 use Rattle.pst_model.specs.Command.{Command}
 use Rattle.pst_model.specs.Run.{lines_of, run, step}
 use Rattle.pst_model.specs.Table.{Table}

@@ -1,13 +1,16 @@
 -- A text that is carried out on an open vault: what holds between two commands, and at an ending.
-use Rattle.std.specs.Prelude.{◌≡◌, ◌≢◌, ◌≤◌, ◌+◌, ◌++◌, ℕ, true, List, length, IsTrue}
+use Rattle.std.specs.Prelude.{◌≡◌, ◌≢◌, ◌≤◌, ◌+◌, ◌++◌, true, List, length, IsTrue}
 use Rattle.board.specs.Meaning.{BoardMeaning, SourceMeaning, TellsFlash, TellsLink}
 use Rattle.board.specs.Moments.{GainsFront, LeavesOnly, SendsOnly, Shows}
 use Rattle.station.specs.declared.ending.Ending.{Ending}
-use Rattle.station.specs.declared.ending.Ending.TheVariants.{BadWords, LinkFault, NotHeld}
+use Rattle.station.specs.declared.ending.Ending.TheVariants.{BadWords, Done, LinkFault, NotHeld}
+use Rattle.station.specs.declared.tally.Tally.{Tally}
 use Rattle.station.specs.Reading.{EndsReading, HasNext, read_of, taken_of, text_limit}
 use Rattle.station.specs.Session.{EndsHolding, EndsSending, LeavesNow, SendsAll}
 use Rattle.station.specs.Station.{HasCauses, Keeps}
+use Rattle.station.specs.Tallies.{IsTallyOf}
 use Rattle.station.specs.Turns.{HoldsPrefix, InTurn}
+use Rattle.station.specs.Working.{ArePlain, NoneIsStale, Worked, WorksFor}
 use Rattle.image_table.specs.Standing.{HoldsTable}
 use Rattle.pst_model.specs.Command.{Command}
 use Rattle.pst_model.specs.Run.{lines_of, run}
@@ -53,7 +56,7 @@ module _ {B S : Type 0} (means : BoardMeaning B) (input : SourceMeaning S) where
   -- Since the first board and source, these commands were carried out, and no others were read. If the
   -- flash is told, the vault `begun` stood for a table then, and `vault` stands for one now.
   pub record Carried (first board : B) (origin source : S) (begun : InMemory) (reader : Reader)
-      (vault : InMemory) : Type 0 where
+      (vault : InMemory) (tally : Tally) : Type 0 where
     pub done : List Command
     pub live : reader.live ≡ true
     pub limit : reader.limit ≡ text_limit
@@ -70,10 +73,18 @@ module _ {B S : Type 0} (means : BoardMeaning B) (input : SourceMeaning S) where
     pub link_faults : (means.counts board).link_faults ≡ (means.counts first).link_faults
     pub on_table : TellsFlash means first → (table : Table)
         → StandsFor begun (means.flash first) table → OnTable means first board table vault done
+    pub counted : TellsFlash means first → (table : Table)
+        → StandsFor begun (means.flash first) table
+        → IsTallyOf (length done) (outputs_of (means.device first).blocks table done) tally
+    -- if no last block was stale then, and they are arrivals, grants and idle times
+    pub work : TellsFlash means first → (table : Table)
+        → StandsFor begun (means.flash first) table → NoneIsStale begun → ArePlain done
+        → Worked (means.device first).blocks table done vault (means.counts first)
+        (means.counts board)
 
   -- A session that began with the first board and source ended so with the others.
   pub record Ended (first board : B) (origin source : S) (begun : InMemory) (ending : Ending)
-      : Type 0 where
+      (tally : Tally) : Type 0 where
     pub known : ending ≢ BadWords
     pub held : ending ≢ NotHeld
     pub done : List Command
@@ -91,3 +102,10 @@ module _ {B S : Type 0} (means : BoardMeaning B) (input : SourceMeaning S) where
     pub on_table : TellsFlash means first → (table : Table)
         → StandsFor begun (means.flash first) table
         → EndsOnTable means first board table done others ending
+    pub counted : TellsFlash means first → (table : Table)
+        → StandsFor begun (means.flash first) table
+        → IsTallyOf (length done) (outputs_of (means.device first).blocks table done) tally
+    pub work : ending ≡ Done → TellsFlash means first → (table : Table)
+        → StandsFor begun (means.flash first) table → NoneIsStale begun → ArePlain done
+        → WorksFor (means.device first).blocks table done 0 0 (means.counts first)
+        (means.counts board)

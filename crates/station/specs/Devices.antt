@@ -1,35 +1,18 @@
 -- The device that words name.
-use Rattle.std.specs.Prelude.{ℕ, ◌+◌, ◌-◌, ◌*◌, ◌&&◌, nat_le, Bool, if◌then◌else◌, List, [], ◌∷◌, length, fold, codes, Option, Some, None}
-use Rattle.std.specs.List.{list_all}
+use Rattle.std.specs.Prelude.{ℕ, if◌then◌else◌, List, [], ◌∷◌, codes, Option, Some, None}
 use Rattle.std.specs.Str.{bytes_eq}
 use Rattle.station.specs.declared.device.Device.{Device}
 use Rattle.station.specs.declared.device.Device.TheVariants.{File, Memory}
-
-abbrev pub is_digit : ℕ → Bool
-is_digit octet = nat_le 48 octet && nat_le octet 57
-
--- the number that decimal digits spell
-abbrev pub number_of : List ℕ → ℕ
-number_of digits = fold (λ number digit. 10 * number + (digit - 48)) 0 digits
-
--- 1 to 20 decimal digits
-abbrev pub is_number : List ℕ → Bool
-is_number word = nat_le 1 (length word) && nat_le (length word) 20 && list_all is_digit word
-
--- the number of blocks that a word says, if it is that of a device
-abbrev pub blocks_of : List ℕ → Option ℕ
-blocks_of word =
-    if is_number word && nat_le 16 (number_of word) && nat_le (number_of word) 512
-    then Some (number_of word) else None
+use Rattle.station.specs.Numbers.{in_range, number_named}
 
 abbrev pub memory_of : Option ℕ → Option Device
 memory_of (Some blocks) = Some (Memory blocks)
 memory_of None = None
 
--- The device that the first two words name.
+-- The device that the first two words name: in memory, of 16 to 512 blocks, or in a file.
 abbrev pub device_named : List (List ℕ) → Option Device
 device_named [] = None
 device_named (place ∷ []) = None
 device_named (kind ∷ place ∷ words) =
-    if bytes_eq kind (codes "mem") then memory_of (blocks_of place)
+    if bytes_eq kind (codes "mem") then memory_of (in_range 16 512 (number_named place))
     else if bytes_eq kind (codes "file") then Some File else None

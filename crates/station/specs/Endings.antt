@@ -4,6 +4,8 @@ use Rattle.station.specs.declared.ending.Ending.{Ending}
 use Rattle.station.specs.declared.ending.Ending.TheVariants.{BadLine, BadWords, Done, FlashFault, LinkFault, Mismatch, NoMemory, NotHeld, SourceFault}
 use Rattle.listing.specs.declared.fault.ListingFault.{ListingFault}
 use Rattle.listing.specs.declared.fault.ListingFault.TheVariants as faults
+use Rattle.handler.specs.declared.fault.HandlerFault.{HandlerFault}
+use Rattle.handler.specs.declared.fault.HandlerFault.TheVariants as handler_faults
 
 abbrev pub status_of : Ending → ℕ
 status_of Done = 0
@@ -15,6 +17,13 @@ status_of LinkFault = 5
 status_of SourceFault = 6
 status_of (Mismatch block page kept found) = 7
 status_of NoMemory = 8
+
+-- how a session ends where a command was not carried out
+abbrev pub ending_after : HandlerFault → Ending
+ending_after handler_faults.Flash = FlashFault
+ending_after handler_faults.Link = LinkFault
+ending_after (handler_faults.Mismatch block page kept found) = Mismatch block page kept found
+ending_after handler_faults.NoMemory = NoMemory
 
 -- how a session ends where a listing was not sent to its end
 abbrev pub ending_by : ListingFault → Ending

@@ -1,10 +1,15 @@
 pub mod Carrying
 pub mod Devices
 pub mod Endings
+pub mod Generating
+pub mod Numbers
 pub mod Opening
 pub mod Reading
 pub mod Rehearsal
 pub mod Session
 pub mod Station
+pub mod Summary
+pub mod Tallies
 pub mod Turns
 pub mod Words
+pub mod Working

@@ -6,12 +6,14 @@ use Rattle.board.specs.Memory.{IsNewBoard, counts_of, memory_means, moment_of, p
 use Rattle.board.specs.MemorySource.{IsNewSource, faults_of, text_means}
 use Rattle.station.specs.declared.ending.Ending.{Ending}
 use Rattle.station.specs.declared.ending.Ending.TheVariants.{BadWords, FlashFault, NoMemory, NotHeld}
+use Rattle.station.specs.Generating.{Generates}
 use Rattle.station.specs.Reading.{EndsAsTold}
 use Rattle.station.specs.Session.{Carries}
 use Rattle.station.specs.Station.{Begins, Formats, Refuses, SendsListing}
 use Rattle.image_table.specs.Standing.{HoldsTable}
 use Rattle.image_table.specs.Table.{table_of}
 use Rattle.pst_model.specs.Table.{Table, after_format}
+use Rattle.traffic_gen.specs.Traffic.{traffic_of}
 
 -- the blocks of a device of this image
 abbrev pub blocks_in : List ℕ → ℕ
@@ -69,6 +71,13 @@ pub record RehearsedList (image text : List ℕ) (ending : Ending) (board : MemB
     (source : MemSource) : Type 0 where
   pub begin : Begin image text
   pub listing : SendsListing memory_means (IsTableIn image) begin.board board ending
+  pub unread : source ≡ begin.source
+
+-- `generate`: the traffic was carried out on the table after a format, and the text is as it was.
+pub record RehearsedGenerate (number count : ℕ) (image text : List ℕ) (ending : Ending)
+    (board : MemBoard) (source : MemSource) : Type 0 where
+  pub begin : Begin image text
+  pub generates : Generates memory_means (traffic_of number count) begin.board board ending
   pub unread : source ≡ begin.source
 
 -- other words: nothing was done

@@ -1,7 +1,8 @@
 -- A session on a table: what a stop leaves at each moment, what was sent, and what its ending says.
-use Rattle.std.specs.Prelude.{◌≡◌, ◌⊎◌, ◌≤◌, ◌+◌, ◌++◌, ◌∷◌, [], ℕ, List, length, IsTrue}
+use Rattle.std.specs.Prelude.{◌≡◌, ◌≤◌, ◌+◌, ◌++◌, ◌∷◌, [], ℕ, List, length, IsTrue}
 use Rattle.board.specs.Counts.{RoseBy}
-use Rattle.board.specs.Meaning.{BoardMeaning, SourceMeaning, TellsFlash, TellsLink}
+use Rattle.board.specs.Flash.{IsImage}
+use Rattle.board.specs.Meaning.{BoardMeaning, SourceMeaning, TellsLink}
 use Rattle.board.specs.Moments.{GainsFront, SendsOnly}
 use Rattle.station.specs.declared.ending.Ending.{Ending}
 use Rattle.station.specs.declared.ending.Ending.TheVariants.{BadLine, BadWords, Done, FlashFault, LinkFault, Mismatch, NoMemory, NotHeld, SourceFault}
@@ -19,10 +20,13 @@ module _ {B : Type 0} (means : BoardMeaning B) where
   abbrev pub LeavesNow : B → ((ℕ → List ℕ) → Type 0) → Type 0
   LeavesNow board P = (image : ℕ → List ℕ) → means.images board (means.moment board) image → P image
 
-  -- What the flash of a board holds is this table, and so does each image that a stop leaves of it.
+  -- What the flash of a board holds is this table, and so does each image that a stop leaves of it, now
+  -- or later as long as the flash stays as it is.
   pub record HoldsAll (blocks : ℕ) (table : Table) (board : B) : Type 0 where
     pub content : HoldsTable blocks table (means.flash board).content
     pub leaves : LeavesNow board (HoldsTable blocks table)
+    pub later : (image : ℕ → List ℕ) → IsImage blocks (means.flash board) image
+        → HoldsTable blocks table image
 
   -- All lines of the outputs were sent, and nothing else, each by a call of its own.
   pub record SendsAll (old new : B) (outputs : List Output) : Type 0 where

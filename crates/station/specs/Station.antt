@@ -1,14 +1,16 @@
 -- What a session does by its word.
-use Rattle.std.specs.Prelude.{◌≡◌, ◌≢◌, ◌⊎◌, ◌≤◌, ◌+◌, ◌++◌, ℕ, List, length, IsTrue, None}
-use Rattle.board.specs.Counts.{Counts, Rose}
+use Rattle.std.specs.Prelude.{◌≡◌, ◌≢◌, ◌⊎◌, ◌≤◌, ◌+◌, ◌++◌, ℕ, length, IsTrue, None}
+use Rattle.board.specs.Counts.{Rose}
 use Rattle.board.specs.Flash.{IsImage}
 use Rattle.board.specs.Meaning.{BoardMeaning, SourceMeaning, TellsFlash, TellsLink}
 use Rattle.board.specs.Moments.{GainsFront, LeavesOnly, SendsNothing, SendsOnly}
+use Rattle.board.specs.Touches.{Touches}
 use Rattle.station.specs.declared.ending.Ending.{Ending}
 use Rattle.station.specs.declared.ending.Ending.TheVariants.{Done, FlashFault, LinkFault, Mismatch, NoMemory, NotHeld, SourceFault}
 use Rattle.station.specs.Session.{Carries, HoldsAll}
 use Rattle.image_table.specs.Standing.{HoldsTable}
 use Rattle.image_table.specs.Table.{table_of}
+use Rattle.meta_journal.specs.Halves.{format_pages}
 use Rattle.meta_journal.specs.Standing.{AllFirm}
 use Rattle.pst_model.specs.Listing.{listing_of}
 use Rattle.pst_model.specs.Table.{Table, after_format}
@@ -50,14 +52,14 @@ module _ {B : Type 0} (means : BoardMeaning B) where
     pub link_kept : ending ≢ LinkFault
         → (means.counts new).link_faults ≡ (means.counts old).link_faults
 
-  -- `format`: the flash holds the table after a format.
+  -- `format`: the flash holds the table after a format. Only the pages of the roots and of the journal
+  -- were touched, by at most 12 programs, 5 erases and 8 barriers, and none was read.
   pub record Formats (old new : B) (ending : Ending) : Type 0 where
     pub ends : (ending ≡ Done) ⊎ (ending ≡ FlashFault)
     pub holds : ending ≡ Done → TellsFlash means old
         → HoldsAll means (means.device old).blocks after_format new
     pub sends : SendsNone old new
-    pub reads : (means.counts new).reads ≡ (means.counts old).reads
-    pub programs : (means.counts new).programs ≤ (means.counts old).programs + 12
+    pub touches : Touches means format_pages 12 5 8 old new
 
   -- The listing of a table was sent, if it is told, and nothing else was done.
   pub record SendsListing (told : Table → Type 0) (old new : B) (ending : Ending) : Type 0 where

@@ -1,14 +1,18 @@
 // The commands of a text carried out on the table for which an open vault stands.
-ghost use Rattle.std.specs.Prelude.{◌≡◌, ◌≤◌, ◌<◌, ◌^◌, true, IsTrue, IfSome, IfNone};
+ghost use Rattle.std.specs.Prelude.{◌≡◌, ◌≤◌, ◌<◌, ◌^◌, true, IsTrue, IfSome, IfNone, OnOk};
 ghost use Rattle.handler.specs.Carrying.{Answers, IsBoardOf};
 ghost use Rattle.station.specs.Carrying.{Carried, Ended};
-ghost use Rattle.station.specs.Reading.{IsStart};
+ghost use Rattle.station.specs.Endings.{ending_after};
+ghost use Rattle.station.specs.Reading.{IsStart, text_limit};
+ghost use Rattle.station.specs.Tallies.{IsSmall, no_tally};
+ghost use Rattle.station.specs.Working.{TurnWorks};
 ghost use Rattle.pst_model.specs.Run.{step};
 ghost use Rattle.session_text.specs.Lending.{reader_of};
 ghost use Rattle.session_text.specs.Shown.{command_of, moment_of};
 ghost use Rattle.vault.specs.Memory.{IsSound};
 
 use crate::ending::Ending;
+use crate::tally::Tally;
 use board::{Board, Source};
 use handler::{Handler, HandlerFault, Sent};
 use session_text::{Command, LineEnd, Lines};
@@ -28,9 +32,11 @@ fn carry_out<B: Board>(
     requires is_open { handler.old.is_open ≡ true }
     requires moment { moment_of command < 2 ^ 48 }
     requires board { IsBoardOf B.means handler.old.vault board.old }
-    ensures { Answers B.means board.old board.new handler.old handler.new
+    ensures answers { Answers B.means board.old board.new handler.old handler.new
         (λ number table. step (B.means.device board.old).blocks number (command_of command.entry) table)
         result }
+    ensures work { OnOk result (TurnWorks B.means board.old board.new (command_of command.entry)
+        handler.old.vault handler.new.vault) }
 {
     match command {
         Command::Arrival { moment, packet } => handler.arrival(board, moment, packet),
@@ -46,6 +52,7 @@ fn finish<B: Board>(handler: &mut Handler, board: &mut B, ending: Ending) -> End
     requires board { IsBoardOf B.means handler.old.vault board.old }
     ensures board { board.new ≡ board.old }
     ensures ending { result ≡ ending }
+    ensures sound { IsSound handler.old.vault }
 {
     match handler.finish(board) {
         Ok(()) => ending,
@@ -54,7 +61,9 @@ fn finish<B: Board>(handler: &mut Handler, board: &mut B, ending: Ending) -> End
 }
 
 // How a session ends where a command was not carried out.
-fn ending_of(fault: HandlerFault) -> Ending {
+fn ending_of(fault: HandlerFault) -> Ending
+    ensures { result ≡ ending_after fault }
+{
     match fault {
         HandlerFault::Flash => Ending::FlashFault,
         HandlerFault::Link => Ending::LinkFault,
@@ -73,26 +82,30 @@ fn ending_of(fault: HandlerFault) -> Ending {
     }
 }
 
-// Reads the next command and carries it out. None says that the session goes on.
+// Reads the next command, carries it out and counts it. None says that the session goes on.
 fn take_turn<B: Board, S: Source>(
     alloc: Global,
     lines: &mut Lines,
     handler: &mut Handler,
     source: &mut S,
     board: &mut B,
+    tally: &mut Tally,
 ) -> Option<Ending>
     requires is_open { handler.old.is_open ≡ true }
     requires live { IsTrue (reader_of lines.old).live }
+    requires short { (reader_of lines.old).place ≤ text_limit }
+    requires small { IsSmall (reader_of lines.old).place tally.old }
     requires board { IsBoardOf B.means handler.old.vault board.old }
     ensures goes_on { IfNone result ((first : _) (origin : _) (begun : _)
         → Carried B.means S.means first board.old origin source.old begun (reader_of lines.old)
-        handler.old.vault
+        handler.old.vault tally.old
         → Carried B.means S.means first board.new origin source.new begun (reader_of lines.new)
-        handler.new.vault) }
+        handler.new.vault tally.new) }
     ensures ends { IfSome result (λ ending. (first : _) (origin : _) (begun : _)
         → Carried B.means S.means first board.old origin source.old begun (reader_of lines.old)
-        handler.old.vault
-        → Ended B.means S.means first board.new origin source.new begun ending) }
+        handler.old.vault tally.old
+        → Ended B.means S.means first board.new origin source.new begun ending tally.new) }
+    ensures small { IfNone result (IsSmall (reader_of lines.new).place tally.new) }
     ensures progress { IfNone result ((reader_of lines.old).place < (reader_of lines.new).place) }
     ensures within { (reader_of lines.new).place ≤ (reader_of lines.new).limit }
     ensures limit { (reader_of lines.new).limit ≡ (reader_of lines.old).limit }
@@ -102,23 +115,11 @@ fn take_turn<B: Board, S: Source>(
 {
     match lines.next_line(source) {
         Ok(Some(command)) => match carry_out(alloc, handler, board, command) {
-            Ok(_) => None,
-            Err(HandlerFault::Flash) => Some(Ending::FlashFault),
-            Err(HandlerFault::Link) => Some(Ending::LinkFault),
-            Err(
-                HandlerFault::Mismatch {
-                    block,
-                    page,
-                    kept,
-                    found,
-                },
-            ) => Some(Ending::Mismatch {
-                block,
-                page,
-                kept,
-                found,
-            }),
-            Err(HandlerFault::NoMemory) => Some(Ending::NoMemory),
+            Ok(sent) => {
+                tally.add(sent);
+                None
+            }
+            Err(fault) => Some(ending_of(fault)),
         },
         Ok(None) => Some(finish(handler, board, Ending::Done)),
         Err(LineEnd::Bad { line, why }) => {
@@ -135,33 +136,39 @@ fn carry_out_all<B: Board, S: Source>(
     handler: &mut Handler,
     source: &mut S,
     board: &mut B,
+    tally: &mut Tally,
 ) -> Ending
     requires is_open { handler.old.is_open ≡ true }
     requires reader { IsStart (reader_of lines.old) }
     requires sound { IsSound handler.old.vault }
     requires board { IsBoardOf B.means handler.old.vault board.old }
+    requires tally { tally.old ≡ no_tally }
     ensures { Ended B.means S.means board.old board.new source.old source.new handler.old.vault
-        result }
+        result tally.new }
 {
     'commands: loop {
-        if let Some(ending) = take_turn(alloc, lines, handler, source, board) {
+        if let Some(ending) = take_turn(alloc, lines, handler, source, board, tally) {
             return ending;
         }
     }
 }
 
 /// Carries out the commands of the text of `source` on the table for which the vault stands, if the
-/// board tells its flash. Each is durable before its replies and retrieved lines are sent.
+/// board tells its flash. Each is durable before its replies and retrieved lines are sent, and then
+/// counted.
 pub fn carry_out_text<B: Board, S: Source>(
     alloc: Global,
     vault: Vault,
     source: &mut S,
     board: &mut B,
+    tally: &mut Tally,
 ) -> Ending
     requires is_open { vault.is_open ≡ true }
     requires sound { IsSound vault }
     requires board { IsBoardOf B.means vault board.old }
-    ensures { Ended B.means S.means board.old board.new source.old source.new vault result }
+    requires tally { tally.old ≡ no_tally }
+    ensures { Ended B.means S.means board.old board.new source.old source.new vault result
+        tally.new }
 {
     let Ok(mut lines) = Lines::new(alloc, TEXT_LIMIT) else {
         return Ending::NoMemory;
@@ -169,5 +176,5 @@ pub fn carry_out_text<B: Board, S: Source>(
     let Ok(mut handler) = Handler::new(alloc, vault) else {
         return Ending::NoMemory;
     };
-    carry_out_all(alloc, &mut lines, &mut handler, source, board)
+    carry_out_all(alloc, &mut lines, &mut handler, source, board, tally)
 }

@@ -1,19 +1,16 @@
 // The device that the program's words name.
 ghost use Rattle.std.specs.Prelude.{◌≡◌};
-ghost use Rattle.station.specs.Devices.{blocks_of, device_named};
+ghost use Rattle.station.specs.Devices.{device_named};
+ghost use Rattle.station.specs.Numbers.{in_range, number_named};
 ghost use Rattle.station.specs.Words.{texts_of};
 
+use crate::number_words::number_in;
+
 /// The least number of blocks of a device.
-const LEAST: u32 = 16;
+const LEAST: u64 = 16;
 
 /// The greatest number of blocks of a device.
-const MOST: u32 = 512;
-
-/// The most digits of a number word.
-const DIGITS: usize = 20;
-
-/// `parse` takes this sign before a number. A number word has none.
-const SIGN: u8 = b'+';
+const MOST: u64 = 512;
 
 /// On what device a session runs.
 #[derive(Clone, Copy, Debug, PartialEq, Eq)]
@@ -24,21 +21,15 @@ pub enum Device {
     File,
 }
 
-// The number of a word of 1 to 20 decimal digits, if it is that of a device.
+// The number of blocks that a word says, if it is that of a device.
 fn blocks_in(word: &str) -> Option<u32>
-    ensures { result ≡ blocks_of word.now }
+    ensures { result ≡ in_range 16 512 (number_named word.now) }
 {
-    let octets = word.as_bytes();
-    if octets.is_empty() || octets.len() > DIGITS || octets[0] == SIGN {
-        return None;
-    }
-    let Ok(blocks) = word.parse::<u32>() else {
-        return None;
-    };
+    let blocks = number_in(word)?;
     if blocks < LEAST || blocks > MOST {
         return None;
     }
-    Some(blocks)
+    Some(blocks as u32)
 }
 
 /// The device that the first two words name: `mem` and 1 to 20 decimal digits, whose number is from 16

@@ -5,10 +5,14 @@ mod carrying;
 mod device;
 mod ending;
 mod formatting;
+mod generating;
+mod number_words;
 mod opening;
 mod rehearsal;
 mod sending;
 mod session;
+mod summary;
+mod tally;
 mod words;
 
 pub use device::{Device, device_of};

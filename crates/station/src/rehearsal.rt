@@ -1,13 +1,14 @@
 // A session over a device and a text in memory, which tell all: the premises of `station` are met.
-ghost use Rattle.std.specs.Prelude.{◌≡◌, ◌≤◌, ◌*◌, ◌%◌, length, IfOk};
+ghost use Rattle.std.specs.Prelude.{◌≡◌, ◌≤◌, ◌*◌, ◌%◌, ℕ, length, IfOk};
 ghost use Rattle.station.specs.Rehearsal.{
   RehearsedFormat,
   RehearsedFresh,
+  RehearsedGenerate,
   RehearsedList,
   RehearsedNone,
   RehearsedRun,
 };
-ghost use Rattle.station.specs.Words.{AreFormat, AreFresh, AreKnown, AreList, AreRun, texts_of};
+ghost use Rattle.station.specs.Words.{AreFormat, AreFresh, AreGenerate, AreKnown, AreList, AreRun, texts_of};
 
 use crate::ending::Ending;
 use crate::session::station;
@@ -40,6 +41,9 @@ pub fn rehearse(
     ensures format { IfOk result (λ rehearsal. AreFormat (texts_of words.now) → RehearsedFormat
         image.items text.items rehearsal.ending rehearsal.board rehearsal.source) }
     ensures list { IfOk result (λ rehearsal. AreList (texts_of words.now) → RehearsedList
+        image.items text.items rehearsal.ending rehearsal.board rehearsal.source) }
+    ensures generate { IfOk result (λ rehearsal. (number : ℕ) (count : ℕ)
+        → AreGenerate number count (texts_of words.now) → RehearsedGenerate number count
         image.items text.items rehearsal.ending rehearsal.board rehearsal.source) }
     ensures other_words { IfOk result (λ rehearsal. ¬ (AreKnown (texts_of words.now)) → RehearsedNone
         image.items text.items rehearsal.ending rehearsal.board rehearsal.source) }

@@ -1,5 +1,5 @@
 // The listing of the table that the flash holds is sent.
-ghost use Rattle.std.specs.Prelude.{◌≡◌, true};
+ghost use Rattle.std.specs.Prelude.{◌≡◌, ◌≤◌, ◌+◌, true};
 ghost use Rattle.board.specs.Meaning.{TellsFlash};
 ghost use Rattle.handler.specs.Carrying.{IsBoardOf};
 ghost use Rattle.station.specs.Endings.{IsListed, IsOfListing, ending_by};
@@ -44,6 +44,7 @@ fn send_opened<B: Board>(alloc: Global, mut vault: Vault, board: &mut B) -> Endi
     ensures listing { SendsListing B.means (ToldTable B.means vault board.old) board.old board.new result }
     ensures caused { IsCaused B.means board.old board.new result }
     ensures ends { IsListed result }
+    ensures barriers { (B.means.counts board.new).barriers ≡ (B.means.counts board.old).barriers }
     ensures same { B.means.device board.new ≡ B.means.device board.old }
 {
     let Ok(mut buffer) = vec![in alloc; 0u8; LONGEST] else {
@@ -61,6 +62,7 @@ fn open_listing<B: Board>(alloc: Global, board: &mut B) -> Ending
     ensures lists { Lists B.means board.old board.new result }
     ensures caused { IsCaused B.means board.old board.new result }
     ensures ends { IsOfListing result }
+    ensures barriers { (B.means.counts board.new).barriers ≡ (B.means.counts board.old).barriers }
     ensures same { B.means.device board.new ≡ B.means.device board.old }
 {
     match Vault::open(alloc, board) {
@@ -77,6 +79,7 @@ pub fn send_held<B: Board>(alloc: Global, board: &mut B) -> Ending
     ensures lists { Lists B.means board.old board.new result }
     ensures caused { IsCaused B.means board.old board.new result }
     ensures ends { IsOfListing result }
+    ensures barriers { (B.means.counts board.new).barriers ≤ (B.means.counts board.old).barriers + 1 }
     ensures same { B.means.device board.new ≡ B.means.device board.old }
 {
     match board.barrier() {

@@ -1,25 +1,31 @@
 // A session with the packet store, by its word.
-ghost use Rattle.std.specs.Prelude.{◌≡◌, ◌++◌, ◌↔◌, IsTrue};
+ghost use Rattle.std.specs.Prelude.{◌≡◌, ◌≤◌, ◌+◌, ◌++◌, ◌↔◌, ℕ, IsTrue};
 ghost use Rattle.board.specs.Counts.{Rose};
 ghost use Rattle.board.specs.Meaning.{TellsFlash};
 ghost use Rattle.station.specs.Reading.{EndsAsTold, Reads, taken_of};
 ghost use Rattle.station.specs.Station.{BeginsFresh, Formats, HasCauses, Held, Keeps, Lists, Runs};
-ghost use Rattle.station.specs.Words.{AreFormat, AreFresh, AreKnown, AreList, AreOfText, AreRun, texts_of};
-ghost use Rattle.pst_model.specs.Table.{Table};
+ghost use Rattle.station.specs.Generating.{Generates};
+ghost use Rattle.station.specs.Words.{AreFormat, AreFresh, AreGenerate, AreKnown, AreList, AreOfText, AreRun, texts_of};
+ghost use Rattle.traffic_gen.specs.Traffic.{traffic_of};
+ghost use Rattle.pst_model.specs.Table.{Table, after_format};
+ghost use Rattle.station.specs.Working.{AreEmpty, SessionWorks};
 
 use crate::ending::Ending;
 use crate::formatting::format_only;
+use crate::generating::generate;
 use crate::opening::{fresh_session, run_session};
 use crate::sending::send_held;
-use crate::words::are_only;
+use crate::words::{are_only, traffic_in};
 use board::{Board, Source};
 use std::alloc::Global;
 
-/// A session, by the one word that it has.
+/// A session, by its words.
 ///
 /// `run` opens the table that the flash of `board` holds, and carries out the commands of the text of
 /// `source` on it: each is durable before its replies and retrieved lines are sent on the link.
 /// `fresh` formats the flash first. `format` does that alone. `list` sends the listing of the table.
+/// `generate` and two numbers formats the flash, carries out the generated traffic of the first number,
+/// with as many arrivals as the second one says, and sends the line that sums it up alone.
 ///
 /// `run` and `list` begin with a barrier: what they read is then durable, whatever came before.
 pub fn station<B: Board, S: Source>(
@@ -41,6 +47,20 @@ pub fn station<B: Board, S: Source>(
         → Formats B.means board.old board.new result × (source.new ≡ source.old) }
     ensures list { AreList (texts_of words.now)
         → Lists B.means board.old board.new result × (source.new ≡ source.old) }
+
+    ensures generate { (number : ℕ) (count : ℕ) → AreGenerate number count (texts_of words.now)
+        → Generates B.means (traffic_of number count) board.old board.new result
+        × (source.new ≡ source.old) }
+    // A listing costs one barrier at most.
+    ensures list_work { AreList (texts_of words.now)
+        → (B.means.counts board.new).barriers ≤ (B.means.counts board.old).barriers + 1 }
+
+    // The work of a session whose text is arrivals, grants and idle times, on a table without packets.
+    ensures run_work { AreRun (texts_of words.now) → SessionWorks B.means S.means 0
+        (λ table. Held B.means board.old table × AreEmpty table.stores)
+        board.old board.new source.old result }
+    ensures fresh_work { AreFresh (texts_of words.now) → SessionWorks B.means S.means 12
+        (λ table. table ≡ after_format) board.old board.new source.old result }
 
     // What holds of each word, on every board.
     ensures taken { IsTrue (S.means.tells source.old) → S.means.left source.old
@@ -69,5 +89,8 @@ pub fn station<B: Board, S: Source>(
     if are_only(words, "list") {
         return send_held(alloc, board);
     }
-    Ending::BadWords
+    match traffic_in(words) {
+        Some((number, count)) => generate(alloc, number, count, board),
+        None => Ending::BadWords,
+    }
 }

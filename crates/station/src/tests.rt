@@ -1,12 +1,13 @@
 // Worked sessions: what is sent, and how they end.
 
 use super::*;
-use board::{Board, CallKind, MemBoard, MemSource};
+use board::{Board, CallKind, MemBoard, MemSource, Source};
 use session_text::LineFault;
 use space_packet::PacketFault;
 use std::alloc::{AllocError, Global};
 use std::process::Abort;
 use std::test::Fail;
+use traffic_gen::Traffic;
 
 /// A telemetry packet of APID 100, 20 octets long, up to its last octet.
 const FRONT: &str = "0864c000000d20031900000000000000000010";
@@ -218,7 +219,17 @@ fn other_words_are_refused(rt: HostRuntime) -> Result<(), Fail> {
     let alloc = rt.alloc();
     let rows = [
         [].as_slice(),
-        &["generate", "1", "1"],
+        &["generate"],
+        &["generate", "1"],
+        &["generate", "1", "0"],
+        &["generate", "1", "100001"],
+        &["generate", "18446744073709551616", "1"],
+        &["generate", "+1", "1"],
+        &["generate", "1", "-1"],
+        &["generate", "", "1"],
+        &["generate", "000000000000000000001", "1"],
+        &["generate", "1", "1", "1"],
+        &["Generate", "1", "1"],
         &["run", "run"],
         &["format", "fresh"],
         &["list "],
@@ -228,6 +239,77 @@ fn other_words_are_refused(rt: HostRuntime) -> Result<(), Fail> {
     for row in rows {
         let rehearsal = rehearsed_words(&rt, alloc, row, blank(alloc)?, "G 000000000011\n")?;
         assert_eq!(rt; rehearsal.ending, Ending::BadWords);
+    }
+    Ok(())
+}
+
+// The line that sums up what a session has sent for so many commands. Packets that are forwarded are
+// telemetry of APID 103.
+fn summary_of(alloc: Global, commands: u32, sent: &[u8]) -> Result<String, AllocError> {
+    let mut forwarded = 0u32;
+    let mut retrieved = 0u32;
+    let mut lines = 0u32;
+    for line in sent.split(|octet| *octet == b'\n') {
+        if line.is_empty() {
+            continue;
+        }
+        lines = lines.saturating_add(1);
+        if line.starts_with(b"0 0867") {
+            forwarded = forwarded.saturating_add(1);
+        } else if !line.starts_with(b"0") {
+            retrieved = retrieved.saturating_add(1);
+        }
+    }
+    let replies = lines.saturating_sub(forwarded).saturating_sub(retrieved);
+    let octets = sent.len();
+    format!(in alloc;
+        "commands {commands} forwarded {forwarded} replies {replies} retrieved {retrieved} octets {octets}\n"
+    )
+}
+
+#[test]
+fn generated_traffic_is_summed_up(rt: HostRuntime) -> Result<(), Fail> {
+    let alloc = rt.alloc();
+    let mut board = MemBoard::new(alloc, 16)?;
+    let mut traffic = Traffic::new(7, 40);
+    let ending = station(alloc, &words(alloc, &["fresh"])?, &mut traffic, &mut board);
+    assert_eq!(rt; ending, Ending::Done);
+    let expected = summary_of(alloc, 97, board.sent())?;
+    let mut silent = MemBoard::new(alloc, 16)?;
+    let mut source = MemSource::new(Vec::from_slice(alloc, b"not read")?);
+    let asked = words(alloc, &["generate", "7", "40"])?;
+    let ending = station(alloc, &asked, &mut source, &mut silent);
+    assert_eq!(rt; ending, Ending::Done);
+    assert_eq!(rt; silent.sent(), expected.as_bytes());
+    assert_eq!(rt; silent.count(CallKind::Send), 1);
+    let mut left = [0u8; 16];
+    assert_eq!(rt; source.take(&mut left).ok(), Some(8));
+    for page in 0..256u32 {
+        assert!(rt;
+            silent.page(7, page) == board.page(7, page),
+            "page {page} of the first packets"
+        );
+    }
+    Ok(())
+}
+
+#[test]
+fn the_line_of_traffic_is_not_sent_where_a_call_fails(rt: HostRuntime) -> Result<(), Fail> {
+    let alloc = rt.alloc();
+    let asked = words(alloc, &["generate", "7", "4"])?;
+    let rows = [
+        (CallKind::Send, 1, Ending::LinkFault),
+        (CallKind::Program, 3, Ending::FlashFault),
+        (CallKind::Read, 4, Ending::FlashFault),
+        (CallKind::Barrier, 12, Ending::FlashFault),
+    ];
+    for (kind, number, wanted) in rows {
+        let mut board = MemBoard::new(alloc, 16)?;
+        board.plan(kind, number)?;
+        let mut source = MemSource::new(Vec::new(alloc));
+        let ending = station(alloc, &asked, &mut source, &mut board);
+        assert_eq!(rt; ending, wanted);
+        assert!(rt; board.sent().is_empty());
     }
     Ok(())
 }

@@ -2,8 +2,9 @@ use Rattle.std.proofs.Common.{List, ℕ, ap, subst, ⊎_elim}
 use Rattle.image_board.specs.FileBoard.{file_means}
 use Rattle.image_board.specs.Reading.{octets_left}
 use Rattle.pusstore.specs.Printing.{EndsTaking}
-use Rattle.pusstore.proofs.Filed.{list_refused, list_unwritten, run_refused}
+use Rattle.pusstore.proofs.Filed.{list_refused, list_unwritten, run_refused, sends_once}
 use Rattle.pusstore.proofs.session.file_session.Goals as goal
+use Rattle.traffic_gen.specs.Traffic.{traffic_of}
 
 pub returns-clause-reading : goal.returns-clause-reading
 returns-clause-reading g c are told =
@@ -13,6 +14,10 @@ returns-clause-reading g c are told =
       taken = c.station.ensures.taken told;
       reads = c.station.ensures.reading are told;
     })
+
+pub returns-clause-generate : goal.returns-clause-generate
+returns-clause-generate g c number count are =
+    sends_once file_means c.args.board.now c.station.new.board c.station.result (traffic_of number count) (c.station.ensures.generate number count are).0
 
 pub returns-clause-list : goal.returns-clause-list
 returns-clause-list g c are = list_unwritten file_means c.args.board.now c.station.new.board c.station.result (c.station.ensures.list are).0

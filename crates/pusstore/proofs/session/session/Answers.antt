@@ -1,9 +1,11 @@
 use Rattle.std.proofs.Common.{List, ℕ, ap, refl, subst, ⊎_elim}
 use Rattle.image_board.specs.Reading.{octets_left}
 use Rattle.pusstore.specs.Printing.{EndsPrinting}
+use Rattle.pusstore.proofs.Generated.{generate_none, prints_generate}
 use Rattle.pusstore.proofs.Printed.{prints}
 use Rattle.pusstore.proofs.Silent.{known_outcome, prints_format, prints_list, prints_refused, prints_run}
 use Rattle.pusstore.proofs.session.session.Goals as goal
+use Rattle.traffic_gen.specs.Traffic.{traffic_of}
 
 pub returns-clause-prints : goal.returns-clause-prints
 returns-clause-prints g c are told =
@@ -24,6 +26,16 @@ returns-clause-format g c are =
     c.station-ending.result c.outcome.result c.starved.result c.print_sent-printed.result
     c.outcome.ensures.unprinted c.outcome.ensures.no_memory c.outcome.ensures.same c.print_sent-printed.ensures.printed
     (c.station-ending.ensures.format are).0
+
+pub returns-clause-generate : goal.returns-clause-generate
+returns-clause-generate g c number count are =
+    prints_generate (g.W.Write.contents c.args.output.now) (g.W.Write.contents c.print_sent-printed.new.output)
+    c.args.blocks (traffic_of number count) c.in-Ok.board c.station-ending.new.board c.in-Ok.ensures
+    c.station-ending.result (c.station-ending.ensures.generate number count are).0 c.outcome.result c.starved.result c.print_sent-printed.result
+    c.outcome.ensures.unprinted c.outcome.ensures.no_memory c.outcome.ensures.same c.print_sent-printed.ensures.printed
+
+pub returns-in_default-clause-generate : goal.returns-in_default-clause-generate
+returns-in_default-clause-generate g c number count are = generate_none c.args.blocks (traffic_of number count) (g.W.Write.contents c.args.output.now)
 
 pub returns-clause-unheld : goal.returns-clause-unheld
 returns-clause-unheld g c are =

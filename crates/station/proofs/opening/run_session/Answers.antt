@@ -1,7 +1,10 @@
-use Rattle.station.proofs.Quiet.{BoardLaws, IsQuiet, keeps_quiet, quiet_barrier}
-use Rattle.station.proofs.Since.{causes_since, keeps_since}
-use Rattle.station.proofs.Running.{causes_failed, reads_none, reads_opened, runs_failed, runs_opened}
-use Rattle.station.proofs.Taken.{taken_none}
+use Rattle.std.proofs.Common.{arith}
+use Rattle.pst_model.specs.Table.{Table}
+use Rattle.station.proofs.Quiet.{BoardLaws, IsQuiet, held_on, quiet_barrier}
+use Rattle.station.proofs.SessionWorking.{opened_works}
+use Rattle.station.specs.Station.{Held}
+use Rattle.station.specs.Working.{AreEmpty}
+use Rattle.station.proofs.Running.{reads_none, reads_opened, runs_failed, runs_opened}
 use Rattle.station.proofs.opening.run_session.Given.{Over}
 use Rattle.station.proofs.opening.run_session.Goals as goal
 use Rattle.station.proofs.opening.run_session.Goals.{After-barrier}
@@ -29,3 +32,15 @@ returns-in-Ok-clause-reading g c told =
 
 pub returns-in-Err-clause-reading : goal.returns-in-Err-clause-reading
 returns-in-Err-clause-reading g c told = reads_none (g.S.Source.means.left c.args.source.now)
+
+pub returns-in-Ok-clause-work : goal.returns-in-Ok-clause-work
+returns-in-Ok-clause-work g c =
+    let at = goal.at.returns-in-Ok-clause-work g c in
+    let means = g.B.Board.means in
+    let old = c.args.board.now in
+    let mid = c.barrier.new.self in
+    opened_works means g.S.Source.means old mid c.open_session.new.board c.args.source.now c.open_session.new.source c.open_session.result 0
+    (λ (table : Table). Held means old table × AreEmpty table.stores) c.barrier.ensures.touches.same
+    (omega (arith, c.barrier.ensures.touches.work.reads_to)) (omega (arith, c.barrier.ensures.touches.work.programs_to))
+    (λ told table begun. (held_on means old mid (quiet g at.After-barrier) (laws g old) told table begun.0, begun.1))
+    c.open_session.ensures

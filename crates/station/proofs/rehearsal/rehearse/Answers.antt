@@ -1,7 +1,7 @@
 use Rattle.std.proofs.Common.{◌≡◌, ◌≤◌, ◌*◌, ◌/◌, ℕ, [], ◌∷◌, inl, inr, refl, sym, ◌∙◌, arith}
 use Rattle.std.specs.Prelude.{codes}
 use Rattle.board.specs.Laws.{content_pages}
-use Rattle.station.proofs.Rehearsals.{rehearsed_format, rehearsed_fresh, rehearsed_list, rehearsed_run}
+use Rattle.station.proofs.Rehearsals.{rehearsed_format, rehearsed_fresh, rehearsed_generate, rehearsed_list, rehearsed_run}
 use Rattle.station.proofs.rehearsal.rehearse.Goals as goal
 
 sixteen : (n : ℕ) → 16 * 65536 ≤ n → 16 ≤ n / 65536
@@ -30,6 +30,12 @@ returns-clause-format c are =
     let ended = c.station-ending.ensures.format are in
     rehearsed_format c.args.image.items c.args.text.items c.in_ok-board.board c.new-source.result (sixteen _ c.requires.least) (content_pages c.in_ok-board.board.history) c.in_ok-board.ensures c.new-source.ensures
     c.station-ending.result c.station-ending.new.board c.station-ending.new.source ended.0 ended.1
+
+pub returns-clause-generate : goal.returns-clause-generate
+returns-clause-generate c number count are =
+    let ended = c.station-ending.ensures.generate number count are in
+    rehearsed_generate c.args.image.items c.args.text.items c.in_ok-board.board c.new-source.result (sixteen _ c.requires.least) (content_pages c.in_ok-board.board.history) c.in_ok-board.ensures c.new-source.ensures
+    c.station-ending.result c.station-ending.new.board c.station-ending.new.source number count ended.0 ended.1
 
 pub returns-clause-list : goal.returns-clause-list
 returns-clause-list c are =
