@@ -3,6 +3,8 @@
 #![tactic(auto)]
 
 mod half_board;
+#[cfg(test)]
+mod session_tests;
 mod short_source;
 #[cfg(test)]
 mod tests;
