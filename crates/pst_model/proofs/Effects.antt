@@ -50,7 +50,7 @@ abbrev pub Passed : List (Bool × ℕ) → Type 0
 Passed [] = Unit {0}
 Passed (check ∷ checks) = (check.0 ≡ false) × Passed checks
 
-unless_ok : {X : Type 0} (P : X → Type 0) (checks : List (Bool × ℕ)) (outcome : X) → (Passed checks → P outcome) → IfOk (unless checks outcome) P
+pub unless_ok : {X : Type 0} (P : X → Type 0) (checks : List (Bool × ℕ)) (outcome : X) → (Passed checks → P outcome) → IfOk (unless checks outcome) P
 unless_ok P [] outcome holds = holds tt
 unless_ok P (check ∷ checks) outcome holds =
     cond_both check.0 (Err check.1) (unless checks outcome) (λ r. IfOk r P) (λ fails. tt)

@@ -13,29 +13,18 @@ use Rattle.store_directory.specs.Directory.{Listed}
 use Rattle.store_directory.specs.declared.row.Row.{Row}
 use Rattle.store_load.specs.Each.{each}
 use Rattle.store_load.proofs.Eachs.{each_cons}
-use Rattle.store_policy.specs.Shown.{AreAllTogether, AreIndexed, AreShown, AreTogether, IsStoreShown, IsTableShown, length_of, octets_in}
+use Rattle.store_policy.specs.Shown.{AreAllIndexed, AreAllTogether, AreIndexed, AreShown, AreTogether, IsStoreShown, IsTableShown, length_of, octets_in}
 use Rattle.store_policy.specs.declared.view.View.{View}
 use Rattle.time_index.specs.TimeIndex.{TimeIndex, stamp_of}
 use Rattle.time_index.specs.declared.entry.Entry.{Entry}
-use Rattle.put_laws.specs.Indexes.{AreAllIndexed, AreIndexedAt, IsEntryOf, index_behind_put}
+use Rattle.put_laws.specs.Indexes.{AreIndexedAt, IsEntryOf, index_behind_put}
 use Rattle.put_laws.specs.Puts.{Accepts, Refuses, row_behind_put, told_row}
 use Rattle.put_laws.specs.Walks.{offered_to}
 use Rattle.put_laws.proofs.Contents.{taking}
 use Rattle.put_laws.proofs.Spots.{offered_here, offered_next, spot}
 use Rattle.put_laws.proofs.Staying.{not_offered, refusal}
 
--- from what is shown, and to it
-
-shown_indexed : (stores : List Store) (listed : List Listed) (indexes : List TimeIndex) → AreShown stores listed indexes → AreAllIndexed stores indexes
-shown_indexed [] [] [] shown = tt
-shown_indexed [] [] (index ∷ indexes) shown = absurd shown
-shown_indexed [] (s ∷ listed) indexes shown = absurd shown
-shown_indexed (store ∷ stores) [] indexes shown = absurd shown
-shown_indexed (store ∷ stores) (s ∷ listed) [] shown = absurd shown
-shown_indexed (store ∷ stores) (s ∷ listed) (index ∷ indexes) shown = (shown.0.shown.packets, shown_indexed stores listed indexes shown.1)
-
-pub table_indexed : (table : Table) (view : View) → IsTableShown table view → AreAllIndexed table.stores view.indexes.now
-table_indexed table view shown = shown_indexed table.stores view.directory.now.stores view.indexes.now shown.stores
+-- to what is shown
 
 store_shown : (s : Listed) (records : List Meaning) (store : Store) (index : TimeIndex) → store_with s records ≡ store → AreIndexed store.packets index.entries
     → IsStoreShown store s index

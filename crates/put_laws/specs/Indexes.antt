@@ -1,7 +1,7 @@
 -- The time indexes of the stores while a packet is offered to one after another.
-use Rattle.std.specs.Prelude.{◌≡◌, ⊤, ℕ, List, [], ◌∷◌, length}
-use Rattle.pst_model.specs.Table.{Store, Stored, Table}
-use Rattle.store_policy.specs.Shown.{AreIndexed}
+use Rattle.std.specs.Prelude.{◌≡◌, ℕ, List, length}
+use Rattle.pst_model.specs.Table.{Stored, Table}
+use Rattle.store_policy.specs.Shown.{AreAllIndexed}
 use Rattle.time_index.specs.TimeIndex.{TimeIndex, with_entry, without_first}
 use Rattle.time_index.specs.declared.entry.Entry.{Entry}
 use Rattle.put_laws.specs.Walks.{offered_to}
@@ -24,13 +24,6 @@ entry_of stored block page = record {
   length = length stored.octets;
 }
 
--- the packets of each store have, in order, the times and the lengths of the entries of its index
-abbrev pub AreAllIndexed : List Store → List TimeIndex → Type 0
-AreAllIndexed [] [] = ⊤
-AreAllIndexed (store ∷ stores) (index ∷ indexes) =
-    AreIndexed store.packets index.entries × AreAllIndexed stores indexes
-AreAllIndexed _ _ = ⊥
-
--- The same while a packet was offered to so many stores.
+-- The packets of the stores are indexed while a packet was offered to so many of them.
 abbrev pub AreIndexedAt : Stored → (at : ℕ) → Table → List TimeIndex → Type 0
 AreIndexedAt stored at table indexes = AreAllIndexed (offered_to stored at table.stores) indexes

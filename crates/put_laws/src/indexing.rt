@@ -4,11 +4,11 @@ ghost use Rattle.image_table.specs.Table.{table_by};
 ghost use Rattle.pst_model.specs.Arrivals.{is_offered};
 ghost use Rattle.pst_model.specs.Table.{Store, Stored, Table};
 ghost use Rattle.store_directory.specs.Directory.{Listed};
-ghost use Rattle.store_policy.specs.Shown.{AreAllTogether, IsTableShown};
+ghost use Rattle.store_policy.specs.Shown.{AreAllIndexed, AreAllTogether, IsTableShown};
 ghost use Rattle.store_policy.specs.declared.view.View.{View};
 ghost use Rattle.time_index.specs.TimeIndex.{TimeIndex};
 ghost use Rattle.time_index.specs.declared.entry.Entry.{Entry};
-ghost use Rattle.put_laws.specs.Indexes.{AreAllIndexed, AreIndexedAt, IsEntryOf, index_behind_put};
+ghost use Rattle.put_laws.specs.Indexes.{AreIndexedAt, IsEntryOf, index_behind_put};
 ghost use Rattle.put_laws.specs.Puts.{Accepts, Refuses, row_behind_put, told_row};
 
 /// The indexes of a view list the packets of the table that it shows.

@@ -1,6 +1,6 @@
 -- A request of three instructions, of which the second one names no store: two stores end their storage.
 -- So the premises of the laws can be met.
-use Rattle.std.proofs.Common.{◌≡◌, ℕ, ◌<◌, ◌^◌, true, false, List, [], ◌∷◌, ◌++◌, length, Some, None, refl, sym, ◌∙◌, subst, arith}
+use Rattle.std.proofs.Common.{◌≡◌, ℕ, ◌<◌, ◌^◌, Bool, true, false, List, [], ◌∷◌, ◌++◌, length, Some, None, refl, sym, ◌∙◌, subst, arith}
 use Rattle.std.specs.Prelude.{All, drop}
 use Rattle.std.proofs.lemmas.List.Elements.{All-cons, All-nil}
 use Rattle.std.proofs.lemmas.Option.{same_Some}
@@ -27,7 +27,9 @@ use Rattle.store_directory.specs.declared.row.Row.{Row}
 use Rattle.store_load.specs.Kept.{kept_of}
 use Rattle.store_load.proofs.KeptRows.{image_of}
 use Rattle.request_laws.specs.Carrying.{count_of}
-use Rattle.request_laws.specs.Changing.{change_by}
+use Rattle.store_policy.specs.Shown.{AreIndexed, AreTogether}
+use Rattle.time_index.specs.TimeIndex.{TimeIndex}
+use Rattle.request_laws.specs.Changing.{HasIndexes, change_by}
 use Rattle.request_laws.specs.Counting.{CanBeCarried, reports_made}
 use Rattle.request_laws.proofs.Ends as ending
 use Rattle.request_laws.proofs.Holding as holding
@@ -63,6 +65,11 @@ held = refl
 
 abbrev items : List Instruction
 items = Disable 1 ∷ Disable 3 ∷ Disable 2 ∷ []
+
+-- the stores hold no packets
+
+abbrev indexes : List TimeIndex
+indexes = record { first = 0; entries = []; size = 64 } ∷ record { first = 0; entries = []; size = 64 } ∷ []
 
 -- what the model makes of it
 
@@ -101,16 +108,16 @@ between = record table { stores = record (store_of 1) { storage = false } ∷ st
 
 -- the changes, and the directory behind them
 
-first_change : change_by d (Disable 1) ≡ Some (Put (off 1))
+first_change : change_by d indexes (Disable 1) ≡ Some (Put (off 1))
 first_change = refl
 
-no_change : change_by d (Disable 3) ≡ None
+no_change : change_by d indexes (Disable 3) ≡ None
 no_change = refl
 
-asks_only : change_by d Status ≡ None
+asks_only : change_by d indexes Status ≡ None
 asks_only = refl
 
-forward_change : change_by d (ForwardAdd (App 3)) ≡ Some (Forward true (App 3))
+forward_change : change_by d indexes (ForwardAdd (App 3)) ≡ Some (Forward true (App 3))
 forward_change = refl
 
 abbrev changes : List Change
@@ -167,6 +174,18 @@ kept = record {
   };
 }
 
+none_indexed : AreIndexed [] []
+none_indexed = record { times = refl; lengths = refl }
+
+together : (identifier : ℕ) (storage : Bool) → AreTogether (record (row_of identifier) { storage = storage }) (record { first = 0; entries = []; size = 64 })
+together identifier storage = record { first = refl; count = refl; size = refl }
+
+has : HasIndexes table d indexes
+has = record { packets = (none_indexed, (none_indexed, tt)); together = (together 1 true, (together 2 true, tt)) }
+
+has_between : HasIndexes between made indexes
+has_between = record { packets = (none_indexed, (none_indexed, tt)); together = (together 1 false, (together 2 true, tt)) }
+
 each_one : (P : Instruction → Type 0) → ((store : ℕ) → store < 2 ^ 16 → P (Disable store)) → All P items
 each_one P is =
     All-cons P (Disable 1) (drop 1 items) (is 1 (omega arith))
@@ -189,9 +208,9 @@ ended : (next last : Directory) × (apply_all d changes ≡ Some next) × (fold_
     × (table_by 16 image last ≡ Some (record after { reports = 1 }))
 ended =
     let begun = walking.begins 16 d table items kept (begin_held 16 image d table held) (of_held 16 image d table held) in
-    let one = walking.effects 16 d table items 0 [] d (Disable 1) begun refl request between refl (Put (off 1)) refl in
+    let one = walking.effects 16 d table items 0 [] d (Disable 1) begun refl request indexes between refl has (Put (off 1)) refl in
     let two = walking.fails 16 d table items 1 (Put (off 1) ∷ []) one.next (Disable 3) one.walk refl unknown_store refl in
-    let three = walking.effects 16 d table items 2 (Put (off 1) ∷ []) one.next (Disable 2) two.walk refl request after refl (Put (off 2)) (found one.next one.applied) in
+    let three = walking.effects 16 d table items 2 (Put (off 1) ∷ []) one.next (Disable 2) two.walk refl request indexes after refl (has_behind one.next one.applied) (Put (off 2)) (found one.next one.applied) in
     let end = ending.ends 16 9 d table items changes three.next request three.walk in (
       three.next,
       end.last,
@@ -200,5 +219,8 @@ ended =
       holding.held_behind 16 d table items 3 changes three.next three.walk image held 9 refl end,
     )
   where
-    found : (next : Directory) → apply d (Put (off 1)) ≡ Some next → change_by next (Disable 2) ≡ Some (Put (off 2))
-    found next applied = subst (λ (x : Directory). change_by x (Disable 2) ≡ Some (Put (off 2))) (same_Some made next (sym put_one ∙ applied)) refl
+    has_behind : (next : Directory) → apply d (Put (off 1)) ≡ Some next → HasIndexes between next indexes
+    has_behind next applied = subst (λ (x : Directory). HasIndexes between x indexes) (same_Some made next (sym put_one ∙ applied)) has_between
+
+    found : (next : Directory) → apply d (Put (off 1)) ≡ Some next → change_by next indexes (Disable 2) ≡ Some (Put (off 2))
+    found next applied = subst (λ (x : Directory). change_by x indexes (Disable 2) ≡ Some (Put (off 2))) (same_Some made next (sym put_one ∙ applied)) refl

@@ -20,7 +20,7 @@ swapped_by a b true is = ap (λ (n : ℕ). n == a) (sym (eqb-true a b is)) ∙ s
 swapped_by a b false is = swapped a b is
 
 -- a store of the table bears the name of the listed one
-named_as : (identifier : ℕ) (store : Store) (s : Listed) (test : Bool) → IsListedAs store s → is_named identifier store ≡ test → (identifier == s.identifier) ≡ test
+pub named_as : (identifier : ℕ) (store : Store) (s : Listed) (test : Bool) → IsListedAs store s → is_named identifier store ≡ test → (identifier == s.identifier) ≡ test
 named_as identifier store s test is named =
     ap (λ (n : ℕ). identifier == n) (sym is.identifier) ∙ swapped_by store.identifier identifier test named
 

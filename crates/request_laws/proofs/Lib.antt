@@ -5,8 +5,10 @@ pub mod Outcomes
 pub mod Stays
 pub mod Finding
 pub mod PatternLists
+pub mod Indexed
 pub mod Applying
 pub mod Storing
+pub mod Rerowed
 pub mod Effects
 pub mod Walking
 pub mod Holding

@@ -1,13 +1,14 @@
 -- What an instruction that does not fail makes of the table, read from the model.
 use Rattle.std.proofs.Common.{◌≡◌, ℕ, ◌≤◌, Bool, true, false, List, length, Option, Some, None, Result, Ok, Err, refl, subst}
-use Rattle.std.specs.Prelude.{find, if◌then◌else◌, nat_lt}
+use Rattle.std.specs.Prelude.{IfOk, find, if◌then◌else◌, nat_lt}
 use Rattle.std.proofs.lemmas.Bool.{ltb-false}
 use Rattle.control_defs.specs.Lists.{is_standing, with_pattern, without_pattern}
 use Rattle.control_defs.specs.declared.patterns.Pattern.{Pattern}
 use Rattle.pst_model.specs.Changes.{asked_about, change_store, is_named, where_found, with_changed, with_store}
-use Rattle.pst_model.specs.Failures.{already_so, no_such_pattern, too_many_patterns}
+use Rattle.pst_model.specs.Failures.{already_so, no_such_pattern, too_many_patterns, unless}
 use Rattle.pst_model.specs.Instructions.{add_pattern, delete_pattern, set_open, set_storage, with_forward, with_types}
 use Rattle.pst_model.specs.Table.{Store, Table}
+use Rattle.pst_model.proofs.Effects.{Passed, unless_ok}
 
 -- outcomes, with the type of their codes
 
@@ -58,6 +59,16 @@ was_changed identifier table made change is = by (find (is_named identifier) tab
     by : (found : Option Store) → find (is_named identifier) table.stores ≡ found → where_found outcome found ≡ Ok made → Changed identifier table made change
     by (Some store) found is = found_by store found (change store) refl is
     by None found is = absurd (no_Ok is)
+
+-- checks that were all passed
+pub record Checked {X : Type 0} (checks : List (Bool × ℕ)) (outcome made : X) : Type 0 where
+  pub passed : Passed checks
+  pub made_is : outcome ≡ made
+
+pub was_checked : {X : Type 0} (checks : List (Bool × ℕ)) (outcome made : X) → unless checks outcome ≡ Ok made → Checked checks outcome made
+was_checked {X} checks outcome made is =
+    subst (λ (r : Result X ℕ). IfOk r (λ x. x ≡ made → Checked checks outcome made)) is
+    (unless_ok (λ x. x ≡ made → Checked checks outcome made) checks outcome (λ passed same. record { passed = passed; made_is = same })) refl
 
 -- flags
 

@@ -1,10 +1,11 @@
 -- The changes of a store in its place: another row, or other patterns.
-use Rattle.std.proofs.Common.{◌≡◌, ℕ, ◌<◌, ◌^◌, Bool, List, Option, Some, refl, ◌∙◌, ap, arith}
+use Rattle.std.proofs.Common.{◌≡◌, ℕ, ◌<◌, ◌≤◌, ◌^◌, Bool, true, List, length, Option, Some, refl, sym, ◌∙◌, ap, subst, arith}
 use Rattle.std.specs.Prelude.{All, find}
 use Rattle.std.specs.Option.{option_and_then}
 use Rattle.control_defs.specs.Patterns.{HasPatternOctets, IsPattern}
 use Rattle.control_defs.specs.declared.patterns.Pattern.{Pattern}
 use Rattle.control_defs.proofs.PatternOctets.{length-pattern_octets}
+use Rattle.block_pool.specs.Sizes.{blocks_for_size}
 use Rattle.image_table.proofs.SentRows.{untrimmed}
 use Rattle.pst_model.specs.Changes.{is_named, with_store}
 use Rattle.pst_model.specs.Table.{Store, Table}
@@ -12,31 +13,15 @@ use Rattle.record_view.specs.declared.link.Link.{Link}
 use Rattle.store_directory.specs.Changes.{Put, Types, apply, change_store, listed_by, put_row, with_types}
 use Rattle.store_directory.specs.Directory.{Directory, IsDirectory, IsListed, Listed, find_store, put_store}
 use Rattle.store_directory.specs.Options.{◌>>=◌}
-use Rattle.store_directory.specs.Rows.{FitsRow}
+use Rattle.store_directory.specs.Rows.{FitsRow, is_lawful_row}
 use Rattle.store_directory.specs.declared.row.Row.{Row}
 use Rattle.store_directory.proofs.Applied.{with-some}
 use Rattle.store_directory.proofs.Puts.{put-is}
-use Rattle.request_laws.specs.Changing.{BeginsWell, IsListedAs, IsTableOf, KeepsRecords, with_open, with_storage}
+use Rattle.request_laws.specs.Changing.{BeginsWell, IsListedAs, IsTableOf, KeepsRecords}
 use Rattle.request_laws.proofs.Finding.{found_has}
 use Rattle.request_laws.proofs.Applying.{Makes, changes, found_here, records_stay}
 use Rattle.request_laws.proofs.PatternLists.{Lists}
 use Rattle.request_laws.proofs.Stays.{begins_kept, length_kept, reserved_kept}
-
--- a row whose numbers are those of another one fits its octets as that one does
-abbrev flagged : Row → (storage open_on : Bool) → Row
-flagged row storage open_on = record row { storage = storage; open_on = open_on }
-
-same_fits : (row : Row) (storage open_on : Bool) → FitsRow row → FitsRow (flagged row storage open_on)
-same_fits row storage open_on fits = record {
-  identifier = fits.identifier;
-  size = fits.size;
-  channel = fits.channel;
-  first = fits.first;
-  count = fits.count;
-  behind = fits.behind;
-  next = fits.next;
-  end = fits.end;
-}
 
 module _ (before : Directory) (table : Table) (directory : IsDirectory before) (begins : All BeginsWell before.stores) (is_of : IsTableOf table before) where
   -- another row of a store
@@ -45,7 +30,7 @@ module _ (before : Directory) (table : Table) (directory : IsDirectory before) (
     abbrev put : Listed
     put = record s { row = row }
 
-    pub puts : KeepsRecords s put → IsListed put → IsListedAs made put → made.packets ≡ store.packets
+    puts : KeepsRecords s put → IsListed put → IsListedAs made put → made.packets ≡ store.packets
         → Makes before table (record table { stores = with_store identifier made table.stores }) (Put row)
     unfolding apply
     puts keeps listed is same =
@@ -66,6 +51,21 @@ module _ (before : Directory) (table : Table) (directory : IsDirectory before) (
           links = listed.links;
         })))
         listed.fits tt tt (omega arith)
+
+    -- one that is made of the row that stands
+    pub puts_row : KeepsRecords s put → (is_lawful_row s.row ≡ true → is_lawful_row row ≡ true) → (FitsRow s.row → FitsRow row) → IsListedAs made put → made.packets ≡ store.packets
+        → Makes before table (record table { stores = with_store identifier made table.stores }) (Put row)
+    puts_row keeps lawful fits is same =
+        let old = found_has IsListed identifier before.stores s directory.stores.each found in
+        puts keeps
+        (record {
+          lawful = lawful old.lawful;
+          fits = fits old.fits;
+          patterns = old.patterns;
+          links = subst (λ (n : ℕ). length s.links ≤ blocks_for_size n) (sym keeps.size) old.links;
+          fitting = old.fitting;
+        })
+        is same
 
   -- other patterns of a store
   module _ (identifier : ℕ) (store : Store) (s : Listed) (there : find (is_named identifier) table.stores ≡ Some store) (found : find_store identifier before.stores ≡ Some s)
@@ -97,59 +97,3 @@ module _ (before : Directory) (table : Table) (directory : IsDirectory before) (
         (ap (λ (o : Option Listed). o >>= λ old. with_types add pattern old >>= λ new. Some (put_store new before.stores)) found
         ∙ ap (λ (o : Option Listed). o >>= λ new. Some (put_store new before.stores)) changed))
         (low, lawful, octets) lawful lawful (omega (arith, length-pattern_octets pattern))
-
-  -- a row that says another thing of storage or open retrieval
-  module _ (identifier : ℕ) (on : Bool) (store : Store) (s : Listed) (there : find (is_named identifier) table.stores ≡ Some store) (found : find_store identifier before.stores ≡ Some s)
-      (own : s.identifier ≡ identifier) (alike : IsListedAs store s) where
-    abbrev old : IsListed s
-    old = found_has IsListed identifier before.stores s directory.stores.each found
-
-    pub stores_on : Makes before table (record table { stores = with_store identifier (record store { storage = on }) table.stores }) (Put (with_storage on s.row))
-    stores_on =
-        puts identifier store (record store { storage = on }) s (with_storage on s.row) there found own
-        (record { identifier = refl; size = refl; first = refl; count = refl; links = refl })
-        (record {
-          lawful = old.lawful;
-          fits = same_fits s.row on s.open_on old.fits;
-          patterns = old.patterns;
-          links = old.links;
-          fitting = old.fitting;
-        })
-        (record {
-          identifier = alike.identifier;
-          kind = alike.kind;
-          size = alike.size;
-          channel = alike.channel;
-          storage = refl;
-          open_on = alike.open_on;
-          told = alike.told;
-          behind = alike.behind;
-          range = alike.range;
-          patterns = alike.patterns;
-        })
-        refl
-
-    pub opens_on : Makes before table (record table { stores = with_store identifier (record store { open_on = on }) table.stores }) (Put (with_open on s.row))
-    opens_on =
-        puts identifier store (record store { open_on = on }) s (with_open on s.row) there found own
-        (record { identifier = refl; size = refl; first = refl; count = refl; links = refl })
-        (record {
-          lawful = old.lawful;
-          fits = same_fits s.row s.storage on old.fits;
-          patterns = old.patterns;
-          links = old.links;
-          fitting = old.fitting;
-        })
-        (record {
-          identifier = alike.identifier;
-          kind = alike.kind;
-          size = alike.size;
-          channel = alike.channel;
-          storage = alike.storage;
-          open_on = refl;
-          told = alike.told;
-          behind = alike.behind;
-          range = alike.range;
-          patterns = alike.patterns;
-        })
-        refl

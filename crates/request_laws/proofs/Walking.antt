@@ -15,7 +15,8 @@ use Rattle.store_directory.specs.Directory.{Directory, IsDirectory}
 use Rattle.store_directory.specs.Entries.{FitsChange, change_octets, entry_octets}
 use Rattle.store_directory.proofs.Folded.{apply_all-append}
 use Rattle.request_laws.specs.Carrying.{HasCarried, HasChanged, HasPassed, carried_up_to, packets_of}
-use Rattle.request_laws.specs.Changing.{BeginsWell, IsTableOf, change_by}
+use Rattle.time_index.specs.TimeIndex.{TimeIndex}
+use Rattle.request_laws.specs.Changing.{BeginsWell, HasIndexes, IsTableOf, change_by}
 use Rattle.request_laws.specs.Counting.{CanBeCarried}
 use Rattle.request_laws.proofs.Applying.{Makes}
 use Rattle.request_laws.proofs.Stays.{kept_on, kept_same}
@@ -79,11 +80,11 @@ module _ (blocks : ℕ) (d : Directory) (table : Table) (items : List Instructio
   pub fails : (code : ℕ) → instruct blocks item so_far.table ≡ Err code → HasPassed blocks d table items at changes before ((at + 1, code) ∷ [])
   fails code err = passes ((at + 1, code) ∷ []) (went_wrong blocks items at table item there code err)
 
-  module _ (request : CanBeCarried items) (made : Table) (ok : instruct blocks item so_far.table ≡ Ok made) where
-    pub asks : change_by before item ≡ None → HasPassed blocks d table items at changes before []
+  module _ (request : CanBeCarried items) (indexes : List TimeIndex) (made : Table) (ok : instruct blocks item so_far.table ≡ Ok made) where
+    pub asks : change_by before indexes item ≡ None → HasPassed blocks d table items at changes before []
     asks none =
         let carried = all_here (λ (i : Instruction). is_carried i ≡ true) items at item request.carried there in
-        let same : so_far.table ≡ made = only_asks blocks before so_far.table walk.is_of item made carried ok none in
+        let same : so_far.table ≡ made = only_asks blocks before so_far.table indexes walk.is_of item made carried ok none in
         passes []
         (went_well blocks items at table item there made ok
         ∙ (λ i. record { table = sym same i; failures = sym (append-nil so_far.failures) i }))
@@ -114,8 +115,8 @@ module _ (blocks : ℕ) (d : Directory) (table : Table) (items : List Instructio
           failures = ap (λ (c : Carried). c.failures) is;
         }
 
-    pub effects : (change : Change) → change_by before item ≡ Some change → HasChanged blocks d table items at changes before change
-    effects change by =
+    pub effects : HasIndexes so_far.table before indexes → (change : Change) → change_by before indexes item ≡ Some change → HasChanged blocks d table items at changes before change
+    effects has change by =
         let lawful = all_here IsInstruction items at item request.asked.lawful there in
         let octets = all_here HasOctets items at item request.asked.fit there in
-        changed change (takes_effect blocks before so_far.table walk.is_of walk.directory walk.begins item made change lawful octets ok by)
+        changed change (takes_effect blocks before so_far.table indexes walk.is_of walk.directory walk.begins has item made change lawful octets ok by)

@@ -1,16 +1,22 @@
 -- The change of the directory that an instruction of a request makes, and how a table and its
 -- directory stand to each other.
-use Rattle.std.specs.Prelude.{◌≡◌, ⊤, Bool, true, false, List, [], ◌∷◌, Option, Some, None}
+use Rattle.std.specs.Prelude.{◌≡◌, ⊤, ℕ, ◌==◌, Bool, true, false, if◌then◌else◌, List, [], ◌∷◌, Option, Some, None}
 use Rattle.std.specs.Option.{option_map}
 use Rattle.control_defs.specs.declared.instructions.Instruction.{Instruction}
-use Rattle.control_defs.specs.declared.instructions.Instruction.TheVariants.{ForwardAdd, ForwardDelete, Enable, Disable, AddTypes, DeleteTypes, Resume, Suspend}
+use Rattle.control_defs.specs.declared.instructions.Instruction.TheVariants.{ForwardAdd, ForwardDelete, Enable, Disable, AddTypes, DeleteTypes, StartRange, OpenFrom, Resume, Suspend, Abort, ToCircular, ToBounded, Channel}
+use Rattle.control_defs.specs.declared.instructions.StoreKind.{StoreKind}
+use Rattle.control_defs.specs.declared.instructions.StoreKind.TheVariants.{Circular, Bounded}
 use Rattle.pst_model.specs.Table.{Store, Table}
+use Rattle.retrieval.specs.Picks.{opened_row, ranged_row}
 use Rattle.store_directory.specs.Changes.{Change, Forward, Put, Types}
 use Rattle.store_directory.specs.Directory.{Directory, Listed, find_store}
 use Rattle.store_directory.specs.declared.row.Row.{Row}
 use Rattle.store_load.specs.Kept.{begins_well}
+use Rattle.store_policy.specs.Shown.{AreAllIndexed, AreAllTogether}
+use Rattle.time_index.specs.TimeIndex.{TimeIndex}
 
--- a row with its storage, or its open retrieval, on or off
+-- a row with its storage, or its open retrieval, on or off, of another kind, which has not been told of
+-- as full, on another channel, and without its range retrieval
 
 abbrev pub with_storage : Bool → Row → Row
 with_storage on row = record row { storage = on }
@@ -18,24 +24,54 @@ with_storage on row = record row { storage = on }
 abbrev pub with_open : Bool → Row → Row
 with_open on row = record row { open_on = on }
 
--- The change of an instruction that takes effect on a directory. There is none where it only asks,
--- where its store does not stand, and where it is of a kind that is not carried out.
-abbrev pub change_by : Directory → Instruction → Option Change
-change_by d (ForwardAdd pattern) = Some (Forward true pattern)
-change_by d (ForwardDelete pattern) = Some (Forward false pattern)
-change_by d (Enable store) =
-    option_map (λ (s : Listed). Put (with_storage true s.row)) (find_store store d.stores)
-change_by d (Disable store) =
-    option_map (λ (s : Listed). Put (with_storage false s.row)) (find_store store d.stores)
-change_by d (AddTypes store pattern) =
+abbrev pub with_kind : StoreKind → Row → Row
+with_kind kind row = record row { kind = kind; told = false }
+
+abbrev pub with_channel : (channel : ℕ) → Row → Row
+with_channel channel row = record row { channel = channel }
+
+abbrev pub without_range : Row → Row
+without_range row = record row { range = None }
+
+-- the index of the store with an identifier, and one of no entries where it does not stand
+abbrev pub index_for : (identifier : ℕ) → List Listed → List TimeIndex → TimeIndex
+index_for identifier (s ∷ stores) (index ∷ indexes) =
+    if identifier == s.identifier then index else index_for identifier stores indexes
+index_for identifier _ _ = record { first = 0; entries = []; size = 0 }
+
+-- the put of what is made of the row of a store that is found
+abbrev pub put_by : (next : Row → Row) → Option Listed → Option Change
+put_by next found = option_map (λ (s : Listed). Put (next s.row)) found
+
+-- The change of an instruction that takes effect on a directory, whose stores have these indexes. There
+-- is none where it only asks, where its store does not stand, and where it is of a kind that is not
+-- carried out.
+abbrev pub change_by : Directory → List TimeIndex → Instruction → Option Change
+change_by d indexes (ForwardAdd pattern) = Some (Forward true pattern)
+change_by d indexes (ForwardDelete pattern) = Some (Forward false pattern)
+change_by d indexes (Enable store) = put_by (with_storage true) (find_store store d.stores)
+change_by d indexes (Disable store) = put_by (with_storage false) (find_store store d.stores)
+change_by d indexes (AddTypes store pattern) =
     option_map (λ (s : Listed). Types store true pattern) (find_store store d.stores)
-change_by d (DeleteTypes store pattern) =
+change_by d indexes (DeleteTypes store pattern) =
     option_map (λ (s : Listed). Types store false pattern) (find_store store d.stores)
-change_by d (Resume store) =
-    option_map (λ (s : Listed). Put (with_open true s.row)) (find_store store d.stores)
-change_by d (Suspend store) =
-    option_map (λ (s : Listed). Put (with_open false s.row)) (find_store store d.stores)
-change_by d _ = None
+change_by d indexes (StartRange store t1 t2) =
+    put_by (ranged_row t1 t2 (index_for store d.stores indexes)) (find_store store d.stores)
+change_by d indexes (OpenFrom store t) =
+    put_by (opened_row t (index_for store d.stores indexes)) (find_store store d.stores)
+change_by d indexes (Resume store) = put_by (with_open true) (find_store store d.stores)
+change_by d indexes (Suspend store) = put_by (with_open false) (find_store store d.stores)
+change_by d indexes (Abort store) = put_by without_range (find_store store d.stores)
+change_by d indexes (ToCircular store) = put_by (with_kind Circular) (find_store store d.stores)
+change_by d indexes (ToBounded store) = put_by (with_kind Bounded) (find_store store d.stores)
+change_by d indexes (Channel store channel) =
+    put_by (with_channel channel) (find_store store d.stores)
+change_by d indexes _ = None
+
+-- The indexes of the stores of a directory are those of the packets that its table has.
+pub record HasIndexes (table : Table) (d : Directory) (indexes : List TimeIndex) : Type 0 where
+  pub packets : AreAllIndexed table.stores indexes
+  pub together : AreAllTogether d.stores indexes
 
 -- A store of a table is what a directory lists of it, whatever its packets are.
 pub record IsListedAs (store : Store) (s : Listed) : Type 0 where

@@ -9,7 +9,7 @@ ghost use Rattle.store_directory.specs.Directory.{Directory, IsDirectory};
 ghost use Rattle.store_policy.specs.Shown.{AreAllTogether, IsTableShown};
 ghost use Rattle.store_policy.specs.declared.view.View.{View};
 ghost use Rattle.request_laws.specs.Carrying.{HasCarried};
-ghost use Rattle.request_laws.specs.Changing.{BeginsWell, IsTableOf};
+ghost use Rattle.request_laws.specs.Changing.{BeginsWell, HasIndexes, IsTableOf};
 ghost use Rattle.request_laws.specs.Counting.{CanBeCarried};
 
 /// A table that an image holds by a directory, and one that memory shows by its directory, is the
@@ -27,6 +27,13 @@ pub fn directories_are_of_tables()
 pub fn views_show_a_table()
     ensures { (view : View) → AreAllTogether view.directory.now.stores view.indexes.now
         → (table : Table) × IsTableShown table view }
+{}
+
+/// A table that memory shows has the indexes that lie in memory.
+pub fn shown_tables_have_indexes()
+    ensures { (table : Table) (view : View) → IsTableShown table view
+        → AreAllTogether view.directory.now.stores view.indexes.now
+        → HasIndexes table view.directory.now.directory view.indexes.now }
 {}
 
 /// Before the first instruction nothing is changed.

@@ -7,7 +7,8 @@ ghost use Rattle.pst_model.specs.Table.{Table};
 ghost use Rattle.store_directory.specs.Changes.{Change};
 ghost use Rattle.store_directory.specs.Directory.{Directory};
 ghost use Rattle.request_laws.specs.Carrying.{HasCarried, HasChanged, HasPassed, carried_up_to};
-ghost use Rattle.request_laws.specs.Changing.{change_by};
+ghost use Rattle.time_index.specs.TimeIndex.{TimeIndex};
+ghost use Rattle.request_laws.specs.Changing.{HasIndexes, change_by};
 ghost use Rattle.request_laws.specs.Counting.{CanBeCarried};
 
 /// An instruction that fails is told by its number, from 1, and its code, and changes nothing.
@@ -22,20 +23,24 @@ pub fn instructions_fail()
 /// An instruction that does not fail and makes no change of the directory only asks.
 pub fn instructions_ask()
     ensures { (blocks : ℕ) (d : Directory) (table next : Table) (items : List Instruction) (at : ℕ)
-        (changes : List Change) (before : Directory) (item : Instruction) → CanBeCarried items
-        → HasCarried blocks d table items at changes before → slice_get items at ≡ Some item
-        → instruct blocks item (carried_up_to blocks items at table).table ≡ Ok next
-        → change_by before item ≡ None
-        → HasPassed blocks d table items at changes before [] }
-{}
-
-/// An instruction that does not fail takes effect by its change, which fits the directory.
-pub fn instructions_take_effect()
-    ensures { (blocks : ℕ) (d : Directory) (table next : Table) (items : List Instruction) (at : ℕ)
-        (changes : List Change) (before : Directory) (item : Instruction) (change : Change)
+        (changes : List Change) (before : Directory) (indexes : List TimeIndex) (item : Instruction)
         → CanBeCarried items → HasCarried blocks d table items at changes before
         → slice_get items at ≡ Some item
         → instruct blocks item (carried_up_to blocks items at table).table ≡ Ok next
-        → change_by before item ≡ Some change
+        → change_by before indexes item ≡ None
+        → HasPassed blocks d table items at changes before [] }
+{}
+
+/// An instruction that does not fail takes effect by its change, which fits the directory. Where it
+/// counts packets by their times it does so by the index of its store.
+pub fn instructions_take_effect()
+    ensures { (blocks : ℕ) (d : Directory) (table next : Table) (items : List Instruction) (at : ℕ)
+        (changes : List Change) (before : Directory) (indexes : List TimeIndex) (item : Instruction)
+        (change : Change) → CanBeCarried items
+        → HasCarried blocks d table items at changes before
+        → HasIndexes (carried_up_to blocks items at table).table before indexes
+        → slice_get items at ≡ Some item
+        → instruct blocks item (carried_up_to blocks items at table).table ≡ Ok next
+        → change_by before indexes item ≡ Some change
         → HasChanged blocks d table items at changes before change }
 {}

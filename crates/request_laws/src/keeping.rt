@@ -48,7 +48,8 @@ pub fn records_stay_in_place()
 
 /// The change of an instruction needs no memory: its store stands, and stays as great as it is.
 pub fn changes_take_no_memory()
-    ensures { (d : Directory) (item : Instruction) (change : Change) (largest : ℕ → ℕ)
+    ensures { (d : Directory) (indexes : List TimeIndex) (item : Instruction) (change : Change)
+        (largest : ℕ → ℕ)
         → ((identifier : ℕ) → size_of (find_store identifier d.stores) ≤ largest identifier)
-        → change_by d item ≡ Some change → NeedsRoom change largest → ⊥ }
+        → change_by d indexes item ≡ Some change → NeedsRoom change largest → ⊥ }
 {}

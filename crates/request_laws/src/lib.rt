@@ -11,7 +11,8 @@ mod keeping;
 mod showing;
 
 pub use beginning::{
-    directories_are_of_tables, requests_begin, requests_can_be_carried, views_show_a_table,
+    directories_are_of_tables, requests_begin, requests_can_be_carried, shown_tables_have_indexes,
+    views_show_a_table,
 };
 pub use carrying::{instructions_ask, instructions_fail, instructions_take_effect};
 pub use counting::reports_are_counted;

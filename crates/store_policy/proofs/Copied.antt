@@ -38,7 +38,7 @@ filled-is [] is = absurd (omega arith)
 filled-is (stored ∷ packets) is = refl
 
 module _ (packets : List Stored) (entries : List Entry) (shown : AreIndexed packets entries) where
-  counted : (test : ℕ → Bool) → count_by (λ (stored : Stored). test (time_of stored)) packets ≡ count_by (λ (entry : Entry). test (stamp_of entry)) entries
+  pub counted : (test : ℕ → Bool) → count_by (λ (stored : Stored). test (time_of stored)) packets ≡ count_by (λ (entry : Entry). test (stamp_of entry)) entries
   counted test = count-map time_of test packets ∙ ap (count_by test) shown.times ∙ sym (count-map stamp_of test entries)
 
   between-content : (n m : ℕ) → content_in (take n (drop m packets)) ≡ pages_of (take n (drop m entries))

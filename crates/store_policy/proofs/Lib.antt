@@ -5,6 +5,7 @@ pub mod Blocks
 pub mod Copied
 pub mod CopyChecks
 pub mod Created
+pub mod Indexed
 pub mod Leaving
 pub mod Lookups
 pub mod Resized

@@ -21,6 +21,13 @@ pub record AreIndexed (packets : List Stored) (entries : List Entry) : Type 0 wh
   pub times : map time_of packets ≡ map stamp_of entries
   pub lengths : map octets_in packets ≡ map length_of entries
 
+-- the packets of each store have, in order, the times and the lengths of the entries of its index
+abbrev pub AreAllIndexed : List Store → List TimeIndex → Type 0
+AreAllIndexed [] [] = ⊤
+AreAllIndexed (store ∷ stores) (index ∷ indexes) =
+    AreIndexed store.packets index.entries × AreAllIndexed stores indexes
+AreAllIndexed _ _ = ⊥
+
 -- A row and an index are those of one store.
 pub record AreTogether (row : Row) (index : TimeIndex) : Type 0 where
   pub first : index.first ≡ row.first

@@ -9,13 +9,13 @@ use Rattle.board.specs.Flash.{Flash}
 use Rattle.pst_model.specs.Arrivals.{offer_report}
 use Rattle.pst_model.specs.Table.{Store, Stored, Table}
 use Rattle.put_laws.proofs.Clocks.{begins, clock_applies}
-use Rattle.put_laws.proofs.Indexed.{table_indexed}
 use Rattle.put_laws.proofs.PlacesOn.{clock_places}
 use Rattle.put_laws.specs.Walks.{HasOffered, reports_behind}
 use Rattle.store_directory.specs.Changes.{Change, Clock, apply_all}
 use Rattle.store_directory.specs.Directory.{Directory, IsDirectory, Listed}
 use Rattle.store_directory.specs.Entries.{entry_octets}
 use Rattle.store_directory.specs.Kept.{Kept}
+use Rattle.store_policy.proofs.Indexed.{table_indexed}
 use Rattle.store_policy.specs.Shown.{AreShown, IsTableShown}
 use Rattle.store_put.proofs.Refused.{reported}
 use Rattle.store_put.proofs.Walked.{walking_begins}

@@ -10,9 +10,11 @@ use Rattle.pst_model.specs.Instructions.{instruct}
 use Rattle.pst_model.specs.Requests.{are_alone}
 use Rattle.pst_model.specs.Table.{Table}
 use Rattle.request_laws.specs.Carrying.{HasCarried, HasChanged, HasPassed, carried_up_to}
-use Rattle.request_laws.specs.Changing.{AllKeepRecords, BeginsWell, IsTableOf, change_by}
+use Rattle.request_laws.specs.Changing.{AllKeepRecords, BeginsWell, HasIndexes, IsTableOf, change_by}
 use Rattle.request_laws.specs.Counting.{CanBeCarried}
 use Rattle.request_laws.proofs.Holding.{shown_so_far}
+use Rattle.request_laws.proofs.Indexed.{has_indexes}
+use Rattle.request_laws.proofs.Stays.{together_kept}
 use Rattle.request_laws.proofs.Tables.{of_shown, one_shown}
 use Rattle.request_laws.proofs.Walking.{asks, begins, effects, fails}
 use Rattle.store_directory.specs.Changes.{Change}
@@ -104,13 +106,19 @@ module _ (blocks : ℕ) (indexes : List TimeIndex) (items : List Instruction) (a
   pub carried_size : AreAllTogether d.stores indexes → size ≤ 30 * at
   carried_size together = let (table, walk) = some_carried together in omega (arith, walk.short, so_far.size_is)
 
-  module _ (can : CanBeCarried items) (item : Instruction) (here : slice_get items at ≡ Some item) where
+  module _ (together : AreAllTogether d.stores indexes) (can : CanBeCarried items) (item : Instruction) (here : slice_get items at ≡ Some item) where
     -- what the instructions made of each table is shown of the directory as it is now
     now_shown : (table : Table) (view : View) → IsViewWith d indexes view → IsTableShown table view
         → IsTableShown (carried_up_to blocks items at table).table (view_of before indexes)
     now_shown table view is shown =
         shown_so_far blocks d table items at so_far.changes before (so_far.carried table view is shown) view (view_of before indexes)
         (record { before = is.directory; behind = refl; indexes = sym is.indexes }) shown
+
+    has_shown : (table : Table) (view : View) → IsViewWith d indexes view → IsTableShown table view
+        → HasIndexes (carried_up_to blocks items at table).table before indexes
+    has_shown table view is shown =
+        has_indexes (carried_up_to blocks items at table).table (view_of before indexes) (now_shown table view is shown)
+        (together_kept d.stores before.stores indexes (carried_records together) together)
 
     pub refuse_on : (refusal : Refusal) → OfShown before indexes (λ table. Agrees (Err refusal) (instruct blocks item table))
         → AreCarriedOut blocks indexes items (at + 1) d before (refused ++ (at + 1, refusal) ∷ []) size old text
@@ -138,7 +146,7 @@ module _ (blocks : ℕ) (indexes : List TimeIndex) (items : List Instruction) (a
           succeeded (instruct blocks item (carried_up_to blocks items at table).table)
           (agrees (carried_up_to blocks items at table).table (view_of before indexes) (is_view_of before indexes) (now_shown table view is shown))
 
-      ask_on : change_by before item ≡ None → MakesNone before next size end text new
+      ask_on : change_by before indexes item ≡ None → MakesNone before next size end text new
           → AreCarriedOut blocks indexes items (at + 1) d next refused end old new
       ask_on none makes = record {
         changes = so_far.changes;
@@ -153,9 +161,9 @@ module _ (blocks : ℕ) (indexes : List TimeIndex) (items : List Instruction) (a
               → HasPassed blocks d table items at so_far.changes before []
           passed table view is shown =
               let (made, ok) = went_well table view is shown in
-              asks blocks d table items at so_far.changes before item (so_far.carried table view is shown) here can made ok none
+              asks blocks d table items at so_far.changes before item (so_far.carried table view is shown) here can indexes made ok none
 
-      change_on : (change : Change) → change_by before item ≡ Some change → MakesChange change before next size end text new
+      change_on : (change : Change) → change_by before indexes item ≡ Some change → MakesChange change before next size end text new
           → AreCarriedOut blocks indexes items (at + 1) d next refused end old new
       change_on change by makes =
           let more : entry_octets (so_far.changes ++ change ∷ []) ≡ entry_octets so_far.changes ++ change_octets change =
@@ -175,13 +183,13 @@ module _ (blocks : ℕ) (indexes : List TimeIndex) (items : List Instruction) (a
               → HasChanged blocks d table items at so_far.changes before change
           changed table view is shown =
               let (made, ok) = went_well table view is shown in
-              effects blocks d table items at so_far.changes before item (so_far.carried table view is shown) here can made ok change by
+              effects blocks d table items at so_far.changes before item (so_far.carried table view is shown) here can indexes made ok (has_shown table view is shown) change by
 
-      pub effect_on : TakesEffect (change_by before item) before next size end text new
+      pub effect_on : TakesEffect (change_by before indexes item) before next size end text new
           → AreCarriedOut blocks indexes items (at + 1) d next refused end old new
-      effect_on effect = pick (change_by before item) refl effect
+      effect_on effect = pick (change_by before indexes item) refl effect
         where
-          pick : (found : Option Change) → change_by before item ≡ found → TakesEffect found before next size end text new
+          pick : (found : Option Change) → change_by before indexes item ≡ found → TakesEffect found before next size end text new
               → AreCarriedOut blocks indexes items (at + 1) d next refused end old new
           pick None is effect = ask_on is effect
           pick (Some change) is effect = change_on change is effect

@@ -18,7 +18,6 @@ use Rattle.meta_journal.specs.Standing as journals
 use Rattle.pst_model.specs.Table.{Store, Stored, Table}
 use Rattle.put_laws.proofs.Ending.{folds}
 use Rattle.put_laws.proofs.Indexed.{table_shown}
-use Rattle.put_laws.specs.Indexes.{AreAllIndexed}
 use Rattle.put_laws.specs.Walks.{table_at}
 use Rattle.store_directory.specs.Changes.{Change}
 use Rattle.store_directory.specs.Directory.{Directory, Listed, reserved_by}
@@ -27,7 +26,7 @@ use Rattle.store_directory.specs.Kept.{Kept}
 use Rattle.store_load.specs.Claims.{is_data, may_share}
 use Rattle.store_load.proofs.Eachs.{each_both}
 use Rattle.store_load.proofs.Frames.{answered}
-use Rattle.store_policy.specs.Shown.{IsTableShown}
+use Rattle.store_policy.specs.Shown.{AreAllIndexed, IsTableShown}
 use Rattle.store_policy.specs.declared.view.View.{View}
 use Rattle.store_put.specs.Pools as pools
 use Rattle.store_put.specs.Walking.{EachInPlace}

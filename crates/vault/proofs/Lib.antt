@@ -14,7 +14,6 @@ pub mod SameRecords
 pub mod DataBlocks
 pub mod Entered
 pub mod Counted
-pub mod InstructionChanges
 pub mod CarriedOut
 pub mod Prepared
 pub mod Keeping

@@ -32,18 +32,20 @@ pub(crate) struct Carried {
 fn take_effect(
     alloc: Global,
     directory: &mut Directory,
+    indexes: &[Index],
     item: &Instruction,
     at: u32,
     out: &mut [u8],
 ) -> u32
+    requires indexes { length indexes.now ≡ length directory.old.stores }
     requires lawful { IsInstruction item.now }
     requires room { at + 30 ≤ length out.old }
     requires short { at + 30 < 2 ^ 32 }
-    ensures effect { TakesEffect (change_by directory.old.directory item.now) directory.old.directory
-        directory.new.directory at result out.old out.new }
+    ensures effect { TakesEffect (change_by directory.old.directory indexes.now item.now)
+        directory.old.directory directory.new.directory at result out.old out.new }
     ensures end { result ≤ at + 30 }
 {
-    let Some(change) = change_for(directory, item) else {
+    let Some(change) = change_for(directory, indexes, item) else {
         return at;
     };
     // the number of stores is not used: with it comes that no store is greater than it has been
@@ -72,8 +74,9 @@ fn carry_out(
     requires short { at + 30 < 2 ^ 32 }
     ensures agrees { OfShown directory.old.directory indexes.now
         (λ table. Agrees (verdict_of result) (instruct blocks item.now table)) }
-    ensures effect { IfOk result (λ end. TakesEffect (change_by directory.old.directory item.now)
-        directory.old.directory directory.new.directory at end out.old out.new) }
+    ensures effect { IfOk result (λ end. TakesEffect
+        (change_by directory.old.directory indexes.now item.now) directory.old.directory
+        directory.new.directory at end out.old out.new) }
     ensures end { IfOk result (λ end. end ≤ at + 30) }
     ensures same { OnErr result (directory.new ≡ directory.old) }
     ensures text { OnErr result (out.new ≡ out.old) }
@@ -84,7 +87,7 @@ fn carry_out(
         blocks,
     };
     check(&view, item)?;
-    Ok(take_effect(alloc, directory, item, at, out))
+    Ok(take_effect(alloc, directory, indexes, item, at, out))
 }
 
 /// Carries out the instructions of a request, and writes their changes at the front of `out`, 30

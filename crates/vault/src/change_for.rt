@@ -1,15 +1,16 @@
 // The change of the directory that an instruction makes.
-ghost use Rattle.std.specs.Prelude.{◌≡◌, ◌≤◌, IfSome, length};
+ghost use Rattle.std.specs.Prelude.{◌≡◌, length, None};
 ghost use Rattle.std.specs.Option.{option_map};
-ghost use Rattle.control_defs.specs.Instructions.{IsInstruction};
-ghost use Rattle.request_laws.specs.Changing.{change_by, with_open, with_storage};
-ghost use Rattle.store_directory.specs.Changes.{Put, Types};
+ghost use Rattle.request_laws.specs.Changing.{change_by, index_for, put_by, with_channel, with_kind, with_open, with_storage, without_range};
+ghost use Rattle.retrieval.specs.Picks.{opened_row, ranged_row};
+ghost use Rattle.store_directory.specs.Changes.{Types};
 ghost use Rattle.store_directory.specs.Directory.{find_store};
-ghost use Rattle.store_directory.specs.Entries.{CanBeWritten, change_octets};
-ghost use Rattle.store_directory.specs.Kept.{IsChange, change_of};
+ghost use Rattle.store_directory.specs.Kept.{change_of};
 
-use control_defs::{Instruction, Pattern};
+use control_defs::{Instruction, Pattern, StoreKind};
+use retrieval::{open_from, with_range};
 use store_directory::{Change, Directory, Row};
+use time_index::Index;
 
 // The row of the store with this identifier, if it stands.
 fn row_of(directory: &Directory, store: u16) -> Option<Row>
@@ -22,7 +23,7 @@ fn row_of(directory: &Directory, store: u16) -> Option<Row>
 // The put of a store with its storage on or off.
 fn set_storage(directory: &Directory, store: u16, storage: bool) -> Option<Change<'static>>
     ensures { option_map change_of result
-        ≡ option_map (λ s. Put (with_storage storage s.row)) (find_store store directory.now.stores) }
+        ≡ put_by (with_storage storage) (find_store store directory.now.stores) }
 {
     let row = row_of(directory, store)?;
     Some(Change::Put(Row { storage, ..row }))
@@ -31,10 +32,74 @@ fn set_storage(directory: &Directory, store: u16, storage: bool) -> Option<Chang
 // The put of a store with its open retrieval on or off.
 fn set_open(directory: &Directory, store: u16, open_on: bool) -> Option<Change<'static>>
     ensures { option_map change_of result
-        ≡ option_map (λ s. Put (with_open open_on s.row)) (find_store store directory.now.stores) }
+        ≡ put_by (with_open open_on) (find_store store directory.now.stores) }
 {
     let row = row_of(directory, store)?;
     Some(Change::Put(Row { open_on, ..row }))
+}
+
+// The put of a store of the other kind, of which it has not been told that it is full.
+fn set_kind(directory: &Directory, store: u16, kind: StoreKind) -> Option<Change<'static>>
+    ensures { option_map change_of result
+        ≡ put_by (with_kind kind) (find_store store directory.now.stores) }
+{
+    let row = row_of(directory, store)?;
+    Some(Change::Put(Row {
+        kind,
+        told: false,
+        ..row
+    }))
+}
+
+// The put of a store on another channel.
+fn set_channel(directory: &Directory, store: u16, channel: u8) -> Option<Change<'static>>
+    ensures { option_map change_of result
+        ≡ put_by (with_channel channel) (find_store store directory.now.stores) }
+{
+    let row = row_of(directory, store)?;
+    Some(Change::Put(Row { channel, ..row }))
+}
+
+// The put of a store without its range retrieval.
+fn end_range(directory: &Directory, store: u16) -> Option<Change<'static>>
+    ensures { option_map change_of result
+        ≡ put_by without_range (find_store store directory.now.stores) }
+{
+    let row = row_of(directory, store)?;
+    Some(Change::Put(Row { range: None, ..row }))
+}
+
+// The put of a store with a range retrieval of its packets with times from `t1` to `t2`.
+fn start_range(
+    directory: &Directory,
+    indexes: &[Index],
+    store: u16,
+    t1: u64,
+    t2: u64,
+) -> Option<Change<'static>>
+    requires { length indexes.now ≡ length directory.now.stores }
+    ensures { option_map change_of result
+        ≡ put_by (ranged_row t1 t2 (index_for store directory.now.stores indexes.now))
+        (find_store store directory.now.stores) }
+{
+    let at = directory.find(store)?;
+    Some(Change::Put(with_range(directory.row(at), &indexes[at as usize], t1, t2)))
+}
+
+// The put of a store whose open retrieval goes on from `t`.
+fn move_open(
+    directory: &Directory,
+    indexes: &[Index],
+    store: u16,
+    t: u64,
+) -> Option<Change<'static>>
+    requires { length indexes.now ≡ length directory.now.stores }
+    ensures { option_map change_of result
+        ≡ put_by (opened_row t (index_for store directory.now.stores indexes.now))
+        (find_store store directory.now.stores) }
+{
+    let at = directory.find(store)?;
+    Some(Change::Put(open_from(directory.row(at), &indexes[at as usize], t)))
 }
 
 // A pattern of a store is added, or else removed, if the store stands.
@@ -56,9 +121,16 @@ fn change_types(
 }
 
 /// The change that an instruction makes of a directory if it takes effect. None of an instruction
-/// that only asks, of one whose store does not stand, and of a kind that is not carried out.
-pub(crate) fn change_for(directory: &Directory, item: &Instruction) -> Option<Change<'static>>
-    ensures { option_map change_of result ≡ change_by directory.now.directory item.now }
+/// that only asks, of one whose store does not stand, and of a kind that is not carried out. The
+/// indexes are those of the stores, each in the place of its store.
+pub(crate) fn change_for(
+    directory: &Directory,
+    indexes: &[Index],
+    item: &Instruction,
+) -> Option<Change<'static>>
+    requires { length indexes.now ≡ length directory.now.stores }
+    ensures { option_map change_of result
+        ≡ change_by directory.now.directory indexes.now item.now }
 {
     match *item {
         Instruction::ForwardAdd(pattern) => Some(Change::Forward { add: true, pattern }),
@@ -72,8 +144,16 @@ pub(crate) fn change_for(directory: &Directory, item: &Instruction) -> Option<Ch
         Instruction::DeleteTypes { store, pattern } => {
             change_types(directory, store, false, pattern)
         }
+        Instruction::StartRange { store, t1, t2 } => {
+            start_range(directory, indexes, store, t1, t2)
+        }
+        Instruction::OpenFrom { store, t } => move_open(directory, indexes, store, t),
         Instruction::Resume(store) => set_open(directory, store, true),
         Instruction::Suspend(store) => set_open(directory, store, false),
+        Instruction::Abort(store) => end_range(directory, store),
+        Instruction::ToCircular(store) => set_kind(directory, store, StoreKind::Circular),
+        Instruction::ToBounded(store) => set_kind(directory, store, StoreKind::Bounded),
+        Instruction::Channel { store, channel } => set_channel(directory, store, channel),
         _ => None,
     }
 }

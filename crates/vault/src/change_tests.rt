@@ -8,7 +8,7 @@ ghost use Rattle.request_laws.specs.Counting.{CanBeCarried};
 use super::*;
 use crate::image_writer::{HALVES, Patch, device};
 use board::{Board, CallKind, MemBoard};
-use control_defs::{Instruction, Pattern};
+use control_defs::{Instruction, Pattern, StoreKind};
 use std::alloc::Global;
 use std::test::Fail;
 use store_policy::{Refusal, View};
@@ -140,6 +140,117 @@ fn questions_count_their_reports(rt: HostRuntime) -> Result<(), Fail> {
     assert_eq!(rt; done, Some((NONE, (true, true, [1, 0], 0, 8))));
     let done = request(rt.alloc(), &[], &[Instruction::ForwardReport], 8)?;
     assert_eq!(rt; done, Some((NONE, (true, true, [1, 0], 0, 9))));
+    Ok(())
+}
+
+// The first store's kind and channel, the position of its open retrieval, and its range.
+type Place = (StoreKind, u8, u32, Option<(u32, u32)>);
+
+fn place(vault: &Vault) -> Option<Place>
+    requires { vault.now.is_open ≡ true }
+{
+    let View {
+        directory,
+        indexes: _,
+        blocks: _,
+    } = vault.view();
+    if directory.len() != 2 {
+        return None;
+    }
+    let row = directory.row(0);
+    Some((row.kind, row.channel, row.behind, row.range))
+}
+
+// The place of the first store that is opened.
+fn opened_place(alloc: Global, board: &mut MemBoard) -> Option<Place> {
+    match Vault::open(alloc, board) {
+        Ok(vault) => place(&vault),
+        Err(_) => None,
+    }
+}
+
+// The place of the first store behind a request, and how many of its instructions failed. None if it is
+// another one when the device is opened again.
+fn placed(
+    alloc: Global,
+    patches: &[Patch],
+    items: &[Instruction],
+) -> Result<Option<(Place, usize)>, Fail>
+    requires carried { CanBeCarried items.now }
+{
+    let mut board = device(alloc, [0; 3], [true, false], patches)?;
+    let Ok(mut vault) = Vault::open(alloc, &mut board) else {
+        return Ok(None);
+    };
+    let Ok(outcome) = vault.change(alloc, &mut board, items, 0) else {
+        return Ok(None);
+    };
+    let now = place(&vault);
+    if opened_place(alloc, &mut board) != now {
+        return Ok(None);
+    }
+    Ok(now.map(|place| (place, outcome.refused.len())))
+}
+
+const CIRCULAR: StoreKind = StoreKind::Circular;
+
+// The times of the two packets are 4 and 9.
+#[test]
+fn ranges_start_and_end(rt: HostRuntime) -> Result<(), Fail> {
+    let first = Instruction::StartRange {
+        store: 1,
+        t1: 4,
+        t2: 8,
+    };
+    let done = placed(rt.alloc(), &[], &[first])?;
+    assert_eq!(rt; done, Some(((CIRCULAR, 1, 1, Some((0, 1))), 0)));
+    let second = Instruction::StartRange {
+        store: 1,
+        t1: 5,
+        t2: 9,
+    };
+    // one range at a time
+    let done = placed(rt.alloc(), &[], &[second, first])?;
+    assert_eq!(rt; done, Some(((CIRCULAR, 1, 1, Some((1, 2))), 1)));
+    let none = Instruction::StartRange {
+        store: 1,
+        t1: 5,
+        t2: 8,
+    };
+    let done = placed(rt.alloc(), &[], &[none])?;
+    assert_eq!(rt; done, Some(((CIRCULAR, 1, 1, None), 0)));
+    let done = placed(rt.alloc(), &[], &[Instruction::Abort(1)])?;
+    assert_eq!(rt; done, Some(((CIRCULAR, 1, 1, None), 1)));
+    Ok(())
+}
+
+#[test]
+fn open_retrieval_is_moved(rt: HostRuntime) -> Result<(), Fail> {
+    let off: &[Patch] = &[ALL_OFF];
+    let done = placed(rt.alloc(), off, &[Instruction::OpenFrom { store: 1, t: 4 }])?;
+    assert_eq!(rt; done, Some(((CIRCULAR, 1, 0, None), 0)));
+    let done = placed(
+        rt.alloc(),
+        off,
+        &[Instruction::OpenFrom { store: 1, t: 10 }],
+    )?;
+    assert_eq!(rt; done, Some(((CIRCULAR, 1, 2, None), 0)));
+    Ok(())
+}
+
+#[test]
+fn kind_and_channel_are_changed(rt: HostRuntime) -> Result<(), Fail> {
+    let off: &[Patch] = &[ALL_OFF];
+    let done = placed(rt.alloc(), off, &[Instruction::ToBounded(1)])?;
+    assert_eq!(rt; done, Some(((StoreKind::Bounded, 1, 1, None), 0)));
+    let done = placed(rt.alloc(), off, &[Instruction::ToCircular(1)])?;
+    assert_eq!(rt; done, Some(((CIRCULAR, 1, 1, None), 1)));
+    let seven = Instruction::Channel {
+        store: 1,
+        channel: 7,
+    };
+    let done = placed(rt.alloc(), off, &[seven])?;
+    assert_eq!(rt; done, Some(((CIRCULAR, 7, 1, None), 0)));
     Ok(())
 }
 

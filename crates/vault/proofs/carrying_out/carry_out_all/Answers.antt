@@ -60,7 +60,7 @@ loop-at-preserved c =
                 subst (λ (l : List (ℕ × Refusal)). AreCarriedOut blocks indexes items (at + 1) d next l c.match-carry_out.size old new)
                 (sym (ap (λ r. r.items) w.refused-is))
                 (subst (λ (n : ℕ). AreCarriedOut blocks indexes items (at + 1) d next c.loop-at.refused.items n old new) (sym w.size-is)
-                (effect_on blocks indexes items at d before c.loop-at.refused.items c.loop-at.size old c.loop-at.out so_far.carried c.requires.carried _
+                (effect_on blocks indexes items at d before c.loop-at.refused.items c.loop-at.size old c.loop-at.out so_far.carried c.requires.together c.requires.carried _
                 (slice_get-get_or items at _ c.loop-at-test.true) w.in-Ok.ensures.agrees next w.in-Ok.end new w.in-Ok.ensures.effect));
           }
       | in-Err w ↦
@@ -75,7 +75,7 @@ loop-at-preserved c =
                 (sym (ap (λ r. r.items) w.refused-is ∙ w.push.ensures.items))
                 (subst (λ (n : ℕ). AreCarriedOut blocks indexes items (at + 1) d before (c.loop-at.refused.items ++ (at + 1, w.in-Err.refusal) ∷ []) n old c.loop-at.out)
                 (sym w.size-is)
-                (refuse_on blocks indexes items at d before c.loop-at.refused.items c.loop-at.size old c.loop-at.out so_far.carried c.requires.carried _
+                (refuse_on blocks indexes items at d before c.loop-at.refused.items c.loop-at.size old c.loop-at.out so_far.carried c.requires.together c.requires.carried _
                 (slice_get-get_or items at _ c.loop-at-test.true) w.in-Err.refusal w.in-Err.ensures.agrees))));
           }
     ]
