@@ -29,7 +29,7 @@ rest_same : {X : Type 0} {x y : X} {xs ys : List X} → x ∷ xs ≡ y ∷ ys �
 rest_same is = cc
 
 -- a store that is listed so, with these packets
-store_is : (s : Listed) (records : List Meaning) (store : Store) → IsListedAs store s → store.packets ≡ map stored_of records → store_with s records ≡ store
+pub store_is : (s : Listed) (records : List Meaning) (store : Store) → IsListedAs store s → store.packets ≡ map stored_of records → store_with s records ≡ store
 store_is s records store is packets = λ i. record {
   identifier = sym is.identifier i;
   kind = sym is.kind i;
@@ -102,7 +102,7 @@ stores_shown (o ∷ old) (n ∷ new) (store ∷ stores) [] indexes keeps shown a
 stores_shown (o ∷ old) (n ∷ new) (store ∷ stores) (m ∷ made) [] keeps shown are packets = absurd shown
 
 -- the table of a directory
-whole_is : (d : Directory) (table : Table) → IsTableOf table d → table_with d table.stores ≡ table
+pub whole_is : (d : Directory) (table : Table) → IsTableOf table d → table_with d table.stores ≡ table
 whole_is d table is = λ i. record { now = sym is.now i; reports = sym is.reports i; forward = sym is.forward i; stores = table.stores }
 
 module _ (blocks : ℕ) (d : Directory) (table : Table) (items : List Instruction) (at : ℕ) (changes : List Change) (next : Directory)

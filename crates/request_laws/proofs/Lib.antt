@@ -9,6 +9,8 @@ pub mod Indexed
 pub mod Applying
 pub mod Storing
 pub mod Rerowed
+pub mod Deleting
+pub mod Removing
 pub mod Effects
 pub mod Walking
 pub mod Holding

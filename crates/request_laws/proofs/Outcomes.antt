@@ -21,7 +21,7 @@ failed code = Err code
 pub same_Ok : {X : Type 0} {x y : X} → went x ≡ went y → x ≡ y
 same_Ok is = cc
 
-no_Ok : {X : Type 0} {code : ℕ} {x : X} → failed code ≡ went x → ⊥
+pub no_Ok : {X : Type 0} {code : ℕ} {x : X} → failed code ≡ went x → ⊥
 no_Ok is = cc
 
 -- a store that stands was asked about
