@@ -3,6 +3,7 @@ pub mod Laid
 pub mod Stepped
 pub mod Places
 pub mod Going
+pub mod Dropped
 pub mod Naming
 pub mod Made
 pub mod Refused

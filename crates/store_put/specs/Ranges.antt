@@ -1,5 +1,5 @@
 -- What holds in memory of each store, on every board, and goes on from put to put.
-use Rattle.std.specs.Prelude.{◌≤◌, ⊤, ℕ, List, [], ◌∷◌}
+use Rattle.std.specs.Prelude.{◌≤◌, ⊤, ℕ, zero, suc, List, [], ◌∷◌}
 use Rattle.image_table.specs.Table.{table_rule}
 use Rattle.record_view.specs.declared.link.Link.{Link}
 use Rattle.store_directory.specs.Rows.{between}
@@ -28,3 +28,8 @@ pub record IsInPlace (now : ℕ) (row : Row) (links : List Link) (index : TimeIn
 abbrev pub IsFullBy : (used : ℕ) → List Link → Type 0
 IsFullBy used [] = ⊤
 IsFullBy used (link ∷ links) = 240 ≤ used
+
+-- the pages in use of the last block of a store with so many packets: none where it has none
+abbrev pub used_for : (count used : ℕ) → ℕ
+used_for zero used = 0
+used_for (suc count) used = used

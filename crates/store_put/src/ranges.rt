@@ -13,8 +13,8 @@ ghost use Rattle.store_load.specs.Held.{IsHeld};
 ghost use Rattle.store_load.specs.InRange.{IsPlaced};
 ghost use Rattle.store_load.specs.Keeping.{IsLinkOf};
 ghost use Rattle.store_load.specs.Moving.{GoesOn};
-ghost use Rattle.store_put.specs.Ranges.{IsFullBy, IsInPlace};
-ghost use Rattle.time_index.specs.TimeIndex.{TimeIndex, pages_of};
+ghost use Rattle.store_put.specs.Ranges.{IsFullBy, IsInPlace, used_for};
+ghost use Rattle.time_index.specs.TimeIndex.{TimeIndex, pages_of, without_first};
 ghost use Rattle.time_index.specs.declared.entry.Entry.{Entry};
 
 /// A store that was loaded is in place.
@@ -26,7 +26,7 @@ pub fn loaded_stores_are_in_place()
 {}
 
 /// A store stays in place behind a put, into its last block or into a new one, whatever leaves its
-/// front; and a store whose last block is full has not as many blocks as it reserves.
+/// front, and behind packets that leave its front alone; and a store whose last block is full has not as many blocks as it reserves.
 pub fn stores_stay_in_place()
     ensures taken { (now later : ℕ) (row next : Row) (index : TimeIndex) (used gone : ℕ)
         (entry : Entry) → row.first < 2 ^ 32 → row.count ≤ 100000 → now ≤ later
@@ -46,6 +46,12 @@ pub fn stores_stay_in_place()
         → entry.block ≡ new.block → charge_of entry.length ≤ 256
         → IsInPlace later next (trimmed next.first next.count (links ++ new ∷ []))
         (index_behind_put gone entry index) (charge_of entry.length) }
+    ensures left { (now : ℕ) (row next : Row) (index : TimeIndex) (used gone : ℕ)
+        → row.first < 2 ^ 32 → row.count ≤ 100000 → GoesOn gone 0 row next
+        → next.size ≡ row.size → (links : List Link) → IsInPlace now row links index used
+        → All FitsLink links
+        → IsInPlace now next (trimmed next.first next.count links) (without_first index gone)
+        (used_for next.count used) }
     ensures room { (now : ℕ) (row : Row) (links : List Link) (index : TimeIndex) (used : ℕ)
         → IsInPlace now row links index used → All FitsLink links → row.first < 2 ^ 32
         → row.count ≤ 100000 → IsFullBy used links
