@@ -70,7 +70,7 @@ fn request_refusal(fault: RequestFault) -> Verdict
 fn is_pending(service: u8, subtype: u8) -> bool
     ensures { result ≡ is_pending service subtype }
 {
-    service == STORAGE && matches!(subtype, 11 | 20 | 21 | 24 | 25)
+    service == STORAGE && matches!(subtype, 20 | 24 | 25)
 }
 
 /// The request that a packet is, or the first judgement that refuses it.

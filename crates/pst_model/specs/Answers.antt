@@ -43,7 +43,7 @@ refused_as None behind = refused_by behind
 -- Kinds of request of service 15 that are known and not carried out yet: they are answered as of an
 -- unknown subtype, before their data is judged.
 abbrev pub pending_subtypes : List ℕ
-pending_subtypes = 11 ∷ 20 ∷ 21 ∷ 24 ∷ 25 ∷ []
+pending_subtypes = 20 ∷ 24 ∷ 25 ∷ []
 
 abbrev pub is_pending : (service subtype : ℕ) → Bool
 is_pending service subtype =

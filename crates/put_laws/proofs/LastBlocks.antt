@@ -50,7 +50,7 @@ last_trimmed first link (next ∷ links) = pick (last_trimmed first next links) 
     pick deeper true = deeper
     pick deeper false = refl
 
-last_left : (first count : ℕ) (links : List Link) → 0 < count → last_link (trimmed first count links) ≡ last_link links
+pub last_left : (first count : ℕ) (links : List Link) → 0 < count → last_link (trimmed first count links) ≡ last_link links
 last_left first zero links some = absurd (omega arith)
 last_left first (suc count) [] some = refl
 last_left first (suc count) (link ∷ links) some = last_trimmed first link links
@@ -69,7 +69,7 @@ used_is : (image : ℕ → List ℕ) (row : Row) (links : List Link) → used_in
 used_is image row [] = refl
 used_is image row (link ∷ links) = refl
 
-used_same : (image : ℕ → List ℕ) (old new : Row) (links left : List Link) → end_of new ≡ end_of old → last_link left ≡ last_link links
+pub used_same : (image : ℕ → List ℕ) (old new : Row) (links left : List Link) → end_of new ≡ end_of old → last_link left ≡ last_link links
     → used_in image new left ≡ used_in image old links
 used_same image old new links left ends last =
     used_is image new left ∙ ap (λ (n : ℕ). used_last image n (last_link left)) ends ∙ ap (used_last image (end_of old)) last ∙ sym (used_is image old links)

@@ -11,9 +11,8 @@ use Rattle.store_directory.specs.Directory.{Directory, IsDirectory, IsListed, Li
 use Rattle.store_directory.specs.Entries.{CanBeWritten, FitsChange, change_octets}
 use Rattle.store_directory.specs.Kept.{IsChange}
 use Rattle.store_directory.proofs.Applied.{forward-some}
-use Rattle.request_laws.specs.Carrying.{packets_of}
 use Rattle.request_laws.specs.Changing.{AllKeepRecords, AreListedAs, BeginsWell, IsListedAs, IsTableOf, KeepsRecords}
-use Rattle.request_laws.proofs.Finding.{found_has, put_all, put_as, put_keeps, put_packets}
+use Rattle.request_laws.proofs.Finding.{found_has, packets_of, put_all, put_as, put_keeps, put_packets}
 use Rattle.request_laws.proofs.PatternLists.{Lists}
 use Rattle.request_laws.proofs.Stays.{begins_kept, directory_kept, kept_same}
 

@@ -30,10 +30,10 @@ use Rattle.store_load.proofs.Counting.{kept_parts}
 use Rattle.store_load.proofs.Going.{front_gone}
 use Rattle.store_policy.specs.Shown.{AreAllIndexed, AreAllTogether, AreIndexed, AreTogether, length_of, octets_in}
 use Rattle.time_index.specs.TimeIndex.{TimeIndex, count_up_to, stamp_of, without_first}
-use Rattle.request_laws.specs.Changing.{AreListedAs, HasIndexes, IsListedAs, IsTableOf, index_for}
-use Rattle.request_laws.specs.Leaving.{Deletes, Moves, changed_for, deleted_index, deleted_row}
+use Rattle.request_laws.specs.Changing.{AreListedAs, HasIndexes, IsListedAs, IsTableOf, LeavesFront, changed_for, deleted_index, deleted_row, index_for}
 use Rattle.request_laws.proofs.Finding.{found_as, found_has, named_as, put_as}
 use Rattle.request_laws.proofs.Holding.{store_is, whole_is}
+use Rattle.request_laws.proofs.Moves.{Moves}
 use Rattle.request_laws.proofs.Indexed.{IndexedAs, indexed_as, up_to_is, up_to_within}
 use Rattle.request_laws.proofs.Outcomes.{was_changed, was_checked}
 
@@ -56,10 +56,10 @@ end_low gone limit None low = low
 end_low gone limit (Some (next, end)) low =
     cond_both (nat_lt (next - gone) (end - gone)) (Some (next - gone, end - gone)) None (λ (o : Option (ℕ × ℕ)). range_end o < limit) (λ some. omega (arith, low)) (λ none. omega (arith, low))
 
-abbrev fewer : (gone : ℕ) → Row → Row
+abbrev pub fewer : (gone : ℕ) → Row → Row
 fewer gone row = record (dropped_row gone row) { told = false }
 
-fewer_lawful : (row : Row) (gone : ℕ) → is_lawful_row row ≡ true → is_lawful_row (fewer gone row) ≡ true
+pub fewer_lawful : (row : Row) (gone : ℕ) → is_lawful_row row ≡ true → is_lawful_row (fewer gone row) ≡ true
 fewer_lawful row gone lawful = whole row.size row.channel row.count row.behind row.range lawful
   where
     whole : (size channel count behind : ℕ) (range : Option (ℕ × ℕ))
@@ -74,7 +74,7 @@ fewer_lawful row gone lawful = whole row.size row.channel row.count row.behind r
         let within : behind ≤ count = leb-true behind count passed.1 in
         rw (counted.0, le-leb (count - gone) size (omega (arith, few)), le-leb (behind - gone) (count - gone) (omega (arith, within)), range_left gone count range ranged.1) refl
 
-fewer_fits : (row : Row) (gone : ℕ) → FitsRow row → FitsRow (fewer gone row)
+pub fewer_fits : (row : Row) (gone : ℕ) → FitsRow row → FitsRow (fewer gone row)
 fewer_fits row gone fits = record {
   identifier = fits.identifier;
   size = fits.size;
@@ -125,7 +125,7 @@ left_indexed gone packets index indexed = record {
   lengths = sym (drop-map octets_in gone packets) ∙ ap (drop gone) indexed.lengths ∙ drop-map length_of gone index.entries;
 }
 
-left_together : (gone : ℕ) (row : Row) (index : TimeIndex) → AreTogether row index → AreTogether (fewer gone row) (without_first index gone)
+pub left_together : (gone : ℕ) (row : Row) (index : TimeIndex) → AreTogether row index → AreTogether (fewer gone row) (without_first index gone)
 left_together gone row index together = record {
   first = ap (λ (n : ℕ). (n + gone) % 2 ^ 32) together.first;
   count = length-drop gone index.entries ∙ ap (λ (n : ℕ). n - gone) together.count;
@@ -196,7 +196,7 @@ changed_together new s next (l ∷ listed) (index ∷ indexes) all is goes =
         )
 
 -- the pages of records without the first ones
-pages_left : (gone : ℕ) (records : List Meaning) → pages_in (drop gone records) ≤ pages_in records
+pub pages_left : (gone : ℕ) (records : List Meaning) → pages_in (drop gone records) ≤ pages_in records
 pages_left zero records = omega arith
 pages_left (suc gone) [] = omega arith
 pages_left (suc gone) (meaning ∷ records) = omega (arith, pages_left gone records)
@@ -284,7 +284,8 @@ module _ (blocks : ℕ) (d : Directory) (table : Table) (indexes : List TimeInde
           whole = whole_is after (record table { stores = with_store identifier made table.stores }) of_it;
         })
 
-  pub moved : Moves blocks d table (record table { stores = with_store identifier made table.stores }) (Put row) (changed_for identifier (deleted_index t) d.stores indexes)
+  pub moved : Moves blocks d table (record table { stores = with_store identifier made table.stores }) (λ (next : Directory). LeavesFront identifier t d indexes next)
+      (Put row) (changed_for identifier (deleted_index t) d.stores indexes)
   moved =
       let place = around identifier d.stores s found in
       let fit = put_fits_in blocks d directory share place.front s place.back place.parted row refl refl (fewer_lawful s.row gone listed.lawful) (fewer_fits s.row gone listed.fits) in
@@ -302,9 +303,16 @@ module _ (blocks : ℕ) (d : Directory) (table : Table) (indexes : List TimeInde
       record {
         next = after;
         applied = fit.applied ∙ ap (λ (l : List Listed). Some (with_stores d l)) put;
+        fits = fewer_fits s.row gone listed.fits;
+        can_be_written = tt;
+        in_range = tt;
+        short = omega arith;
         directory = kept;
         share = shared;
+        step = record { s = s; found = found; stores = refl };
         is_of = of_it;
+        now = refl;
+        reports = refl;
         has = record {
           packets =
               changed_indexed identifier made store (deleted_index t) table.stores d.stores indexes is_of.stores has.packets there
@@ -321,6 +329,13 @@ module _ (blocks : ℕ) (d : Directory) (table : Table) (indexes : List TimeInde
       placed : (place : Around identifier d.stores s) → place.front ++ new ∷ place.back ≡ put_store new d.stores
       placed place = sym (ap (put_store new) place.parted ∙ put_here s place.back new refl place.front (ap (λ (l : List Listed). are_distinct (identifiers l)) (sym place.parted) ∙ directory.stores.distinct))
 
+-- The packets of a store with times of at most t leave its front.
+pub record Deletes (blocks : ℕ) (d : Directory) (table made : Table) (indexes : List TimeIndex) (identifier t : ℕ) : Type 0 where
+  pub s : Listed
+  pub found : find_store identifier d.stores ≡ Some s
+  pub moves : Moves blocks d table made (λ (next : Directory). LeavesFront identifier t d indexes next) (Put (deleted_row t (index_for identifier d.stores indexes) s.row))
+      (changed_for identifier (deleted_index t) d.stores indexes)
+
 pub deletes : (blocks : ℕ) (d : Directory) (table made : Table) (indexes : List TimeIndex) (identifier t : ℕ) → IsDirectory d → may_share 240 blocks d.stores ≡ true
     → IsTableOf table d → HasIndexes table d indexes → change_store identifier table (delete_up_to t) ≡ Ok made → Deletes blocks d table made indexes identifier t
 deletes blocks d table made indexes identifier t directory share is_of has ok =
@@ -333,7 +348,8 @@ deletes blocks d table made indexes identifier t directory share is_of has ok =
       found = there.found;
       moves =
           subst
-          (λ (x : Table). Moves blocks d table x (Put (deleted_row t (index_for identifier d.stores indexes) there.s.row)) (changed_for identifier (deleted_index t) d.stores indexes))
+          (λ (x : Table). Moves blocks d table x (λ (next : Directory). LeavesFront identifier t d indexes next) (Put (deleted_row t (index_for identifier d.stores indexes) there.s.row))
+          (changed_for identifier (deleted_index t) d.stores indexes))
           (ap (λ (x : Store). record table { stores = with_store identifier x table.stores }) is.made_is ∙ went.made_is)
           (moved blocks d table indexes directory share is_of has identifier t went.store there.s went.found there.found there.own there.is);
     }

@@ -14,18 +14,22 @@ use Rattle.pst_model.specs.Answers.{is_carried}
 use Rattle.pst_model.specs.Changes as model
 use Rattle.pst_model.specs.Instructions.{add_pattern, delete_pattern, instruct, set_open, set_storage, with_types}
 use Rattle.pst_model.specs.Items.{HasOctets}
-use Rattle.pst_model.specs.Ranges.{abort_checks, abort_range, count_below, count_up_to, open_checks, open_from, range_between, start_checks, start_range}
-use Rattle.pst_model.specs.Stores.{channel_checks, is_channel, kind_checks, set_channel, set_kind}
+use Rattle.pst_model.specs.Ranges.{abort_checks, abort_range, count_below, count_up_to, delete_up_to, open_checks, open_from, range_between, start_checks, start_range}
+use Rattle.pst_model.specs.Stores.{channel_checks, is_channel, kind_checks, remove, set_channel, set_kind}
 use Rattle.pst_model.specs.Table.{Store, Table}
 use Rattle.retrieval.specs.Picks.{opened_row, ranged_row}
-use Rattle.store_directory.specs.Changes.{Change, Forward, Put, Types}
+use Rattle.store_directory.specs.Changes.{Change, Forward, Gone, Put, Types}
 use Rattle.store_directory.specs.Directory.{Directory, IsDirectory, IsListed, Listed, find_store}
 use Rattle.store_directory.specs.declared.row.Row.{Row}
+use Rattle.store_load.specs.Claims.{may_share}
 use Rattle.time_index.specs.TimeIndex.{TimeIndex}
-use Rattle.request_laws.specs.Changing.{BeginsWell, HasIndexes, IsListedAs, IsTableOf, change_by, index_for, put_by, with_channel, with_kind, with_open, with_storage, without_range}
+use Rattle.request_laws.specs.Changing.{AllKeepRecords, BeginsWell, Goes, HasIndexes, IsListedAs, IsTableOf, LeavesFront, StepsBy, change_by, changed_for, deleted_index, deleted_row, index_for, indexes_by, put_by, with_channel, with_kind, with_open, with_storage, without_for, without_range}
 use Rattle.request_laws.proofs.Applying.{Makes, forwards}
+use Rattle.request_laws.proofs.Deleting.{deletes}
+use Rattle.request_laws.proofs.Moves.{Moves, stays}
 use Rattle.request_laws.proofs.PatternLists.{added_to, removed_from}
 use Rattle.request_laws.proofs.Rerowed.{ends_range, opens_from, opens_on, sets_channel, sets_kind, starts_range, stores_on}
+use Rattle.request_laws.proofs.Removing.{removes}
 use Rattle.request_laws.proofs.Storing.{types}
 use Rattle.request_laws.proofs.Finding.{FoundAs, found_as, found_has}
 use Rattle.request_laws.proofs.Indexed.{IndexedAs, indexed_as}
@@ -58,6 +62,12 @@ module _ (blocks : ℕ) (before : Directory) (table : Table) (indexes : List Tim
       → put_by next (find_store identifier before.stores) ≡ None → ⊥
   row_changes identifier made change next = store_changes identifier made change (λ (s : Listed). Put (next s.row))
 
+  removed_changes : (identifier : ℕ) (made : Table) → remove identifier table ≡ Ok made → option_map (λ (_ : Listed). Gone identifier) (find_store identifier before.stores) ≡ None → ⊥
+  removed_changes identifier made ok none =
+      let went = outcomes.was_removed identifier table made ok in
+      let there = found_as identifier table.stores before.stores went.store is_of.stores went.found in
+      none_found (λ (_ : Listed). Gone identifier) (find_store identifier before.stores) there.s there.found none
+
   pub only_asks : (item : Instruction) (made : Table) → is_carried item ≡ true → instruct blocks item table ≡ Ok made → change_by before indexes item ≡ None → table ≡ made
   only_asks (ForwardAdd pattern) made carried ok none = absurd cc
   only_asks (ForwardDelete pattern) made carried ok none = absurd cc
@@ -75,11 +85,11 @@ module _ (blocks : ℕ) (before : Directory) (table : Table) (indexes : List Tim
   only_asks Status made carried ok none = outcomes.same_Ok ok
   only_asks Configuration made carried ok none = outcomes.same_Ok ok
   only_asks (StartRange store t1 t2) made carried ok none = absurd (row_changes store made (start_range t1 t2) (ranged_row t1 t2 (index_for store before.stores indexes)) ok none)
-  only_asks (DeleteUpTo store t) made carried ok none = absurd cc
+  only_asks (DeleteUpTo store t) made carried ok none = absurd (row_changes store made (delete_up_to t) (deleted_row t (index_for store before.stores indexes)) ok none)
   only_asks (OpenFrom store t) made carried ok none = absurd (row_changes store made (open_from t) (opened_row t (index_for store before.stores indexes)) ok none)
   only_asks (Abort store) made carried ok none = absurd (row_changes store made abort_range without_range ok none)
   only_asks (Create store kind size channel) made carried ok none = absurd cc
-  only_asks (Remove store) made carried ok none = absurd cc
+  only_asks (Remove store) made carried ok none = absurd (removed_changes store made ok none)
   only_asks (Copy from to t1 t2) made carried ok none = absurd cc
   only_asks (Resize store size) made carried ok none = absurd cc
   only_asks (ToCircular store) made carried ok none = absurd (row_changes store made (set_kind Circular) (with_kind Circular) ok none)
@@ -232,35 +242,81 @@ module _ (blocks : ℕ) (before : Directory) (table : Table) (indexes : List Tim
         let there = store_there store made outcome (outcomes.was_changed store table made outcome ok) in
         by_found (λ (s : Listed). Types store add pattern) (find_store store before.stores) there.s change there.found by
 
-    pub takes_effect : HasIndexes table before indexes → (item : Instruction) (made : Table) (change : Change) → IsInstruction item → HasOctets item → instruct blocks item table ≡ Ok made → change_by before indexes item ≡ Some change
-        → Makes before table made change
-    takes_effect has (ForwardAdd pattern) made change lawful octets ok by =
-        subst (Makes before table made) (same_Some (Forward true pattern) change by) (forward_added pattern made lawful octets.0 ok)
-    takes_effect has (ForwardDelete pattern) made change lawful octets ok by =
-        subst (Makes before table made) (same_Some (Forward false pattern) change by) (forward_deleted pattern made lawful octets.0 ok)
-    takes_effect has (Enable store) made change lawful octets ok by = stored true store made change ok by
-    takes_effect has (Disable store) made change lawful octets ok by = stored false store made change ok by
-    takes_effect has (AddTypes store pattern) made change lawful octets ok by =
-        subst (Makes before table made) (typed_change true store pattern made change (λ s. with_types s (add_pattern pattern s.patterns)) ok by)
-        (type_added store pattern made octets.0 lawful octets.1.0 ok)
-    takes_effect has (DeleteTypes store pattern) made change lawful octets ok by =
-        subst (Makes before table made) (typed_change false store pattern made change (λ s. with_types s (delete_pattern pattern s.patterns)) ok by)
-        (type_deleted store pattern made octets.0 lawful octets.1.0 ok)
-    takes_effect has (Resume store) made change lawful octets ok by = opened true store made change ok by
-    takes_effect has (Suspend store) made change lawful octets ok by = opened false store made change ok by
-    takes_effect has ForwardReport made change lawful octets ok by = absurd (none-some change by)
-    takes_effect has (ReportTypes store) made change lawful octets ok by = absurd (none-some change by)
-    takes_effect has (StartRange store t1 t2) made change lawful octets ok by = range_started has store t1 t2 made change ok by
-    takes_effect has (DeleteUpTo store t) made change lawful octets ok by = absurd (none-some change by)
-    takes_effect has (Summary store) made change lawful octets ok by = absurd (none-some change by)
-    takes_effect has (OpenFrom store t) made change lawful octets ok by = open_moved has store t made change ok by
-    takes_effect has (Abort store) made change lawful octets ok by = range_ended store made change ok by
-    takes_effect has Status made change lawful octets ok by = absurd (none-some change by)
-    takes_effect has (Create store kind size channel) made change lawful octets ok by = absurd (none-some change by)
-    takes_effect has (Remove store) made change lawful octets ok by = absurd (none-some change by)
-    takes_effect has Configuration made change lawful octets ok by = absurd (none-some change by)
-    takes_effect has (Copy from to t1 t2) made change lawful octets ok by = absurd (none-some change by)
-    takes_effect has (Resize store size) made change lawful octets ok by = absurd (none-some change by)
-    takes_effect has (ToCircular store) made change lawful octets ok by = kind_set Circular store made change ok by
-    takes_effect has (ToBounded store) made change lawful octets ok by = kind_set Bounded store made change ok by
-    takes_effect has (Channel store channel) made change lawful octets ok by = channel_set channel store made change ok by
+    -- with the indexes
+
+    module _ (share : may_share 240 blocks before.stores ≡ true) (has : HasIndexes table before indexes) where
+      kept : (made : Table) (change : Change) → Makes before table made change → Moves blocks before table made (λ (next : Directory). AllKeepRecords before.stores next.stores) change indexes
+      kept made change = stays blocks before table made change indexes share has
+
+      front_left : (store t : ℕ) (made : Table) (change : Change) → model.change_store store table (delete_up_to t) ≡ Ok made
+          → put_by (deleted_row t (index_for store before.stores indexes)) (find_store store before.stores) ≡ Some change
+          → Moves blocks before table made (λ (next : Directory). LeavesFront store t before indexes next) change (changed_for store (deleted_index t) before.stores indexes)
+      front_left store t made change ok by =
+          let gone = deletes blocks before table made indexes store t directory share is_of has ok in
+          subst
+          (λ (c : Change). Moves blocks before table made (λ (next : Directory). LeavesFront store t before indexes next) c (changed_for store (deleted_index t) before.stores indexes))
+          (by_found (λ (s : Listed). Put (deleted_row t (index_for store before.stores indexes) s.row)) (find_store store before.stores) gone.s change gone.found by) gone.moves
+
+      store_gone : (store : ℕ) (made : Table) (change : Change) → remove store table ≡ Ok made → option_map (λ (_ : Listed). Gone store) (find_store store before.stores) ≡ Some change
+          → Moves blocks before table made (λ (next : Directory). Goes store before next) change (without_for store before.stores indexes)
+      store_gone store made change ok by =
+          let gone = removes blocks before table made indexes store directory share is_of has ok in
+          subst (λ (c : Change). Moves blocks before table made (λ (next : Directory). Goes store before next) c (without_for store before.stores indexes))
+          (by_found (λ (_ : Listed). Gone store) (find_store store before.stores) gone.s change gone.found by) gone.moves
+
+      pub takes_effect : (item : Instruction) (made : Table) (change : Change) → IsInstruction item → HasOctets item → instruct blocks item table ≡ Ok made → change_by before indexes item ≡ Some change
+          → Moves blocks before table made (λ (next : Directory). StepsBy item before indexes next) change (indexes_by before indexes item)
+      takes_effect (ForwardAdd pattern) made change lawful octets ok by =
+          kept made change
+          (subst (Makes before table made) (same_Some (Forward true pattern) change by) (forward_added pattern made lawful octets.0 ok))
+      takes_effect (ForwardDelete pattern) made change lawful octets ok by =
+          kept made change
+          (subst (Makes before table made) (same_Some (Forward false pattern) change by) (forward_deleted pattern made lawful octets.0 ok))
+      takes_effect (Enable store) made change lawful octets ok by =
+          kept made change
+          (stored true store made change ok by)
+      takes_effect (Disable store) made change lawful octets ok by =
+          kept made change
+          (stored false store made change ok by)
+      takes_effect (AddTypes store pattern) made change lawful octets ok by =
+          kept made change
+          (subst (Makes before table made) (typed_change true store pattern made change (λ s. with_types s (add_pattern pattern s.patterns)) ok by)
+          (type_added store pattern made octets.0 lawful octets.1.0 ok))
+      takes_effect (DeleteTypes store pattern) made change lawful octets ok by =
+          kept made change
+          (subst (Makes before table made) (typed_change false store pattern made change (λ s. with_types s (delete_pattern pattern s.patterns)) ok by)
+          (type_deleted store pattern made octets.0 lawful octets.1.0 ok))
+      takes_effect (Resume store) made change lawful octets ok by =
+          kept made change
+          (opened true store made change ok by)
+      takes_effect (Suspend store) made change lawful octets ok by =
+          kept made change
+          (opened false store made change ok by)
+      takes_effect ForwardReport made change lawful octets ok by = absurd (none-some change by)
+      takes_effect (ReportTypes store) made change lawful octets ok by = absurd (none-some change by)
+      takes_effect (StartRange store t1 t2) made change lawful octets ok by =
+          kept made change
+          (range_started has store t1 t2 made change ok by)
+      takes_effect (DeleteUpTo store t) made change lawful octets ok by = front_left store t made change ok by
+      takes_effect (Summary store) made change lawful octets ok by = absurd (none-some change by)
+      takes_effect (OpenFrom store t) made change lawful octets ok by =
+          kept made change
+          (open_moved has store t made change ok by)
+      takes_effect (Abort store) made change lawful octets ok by =
+          kept made change
+          (range_ended store made change ok by)
+      takes_effect Status made change lawful octets ok by = absurd (none-some change by)
+      takes_effect (Create store kind size channel) made change lawful octets ok by = absurd (none-some change by)
+      takes_effect (Remove store) made change lawful octets ok by = store_gone store made change ok by
+      takes_effect Configuration made change lawful octets ok by = absurd (none-some change by)
+      takes_effect (Copy from to t1 t2) made change lawful octets ok by = absurd (none-some change by)
+      takes_effect (Resize store size) made change lawful octets ok by = absurd (none-some change by)
+      takes_effect (ToCircular store) made change lawful octets ok by =
+          kept made change
+          (kind_set Circular store made change ok by)
+      takes_effect (ToBounded store) made change lawful octets ok by =
+          kept made change
+          (kind_set Bounded store made change ok by)
+      takes_effect (Channel store channel) made change lawful octets ok by =
+          kept made change
+          (channel_set channel store made change ok by)

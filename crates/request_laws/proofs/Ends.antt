@@ -15,6 +15,7 @@ use Rattle.store_directory.specs.Entries.{FitsChange, entry_octets}
 use Rattle.store_directory.specs.Folds.{fold_entry}
 use Rattle.store_directory.specs.Options.{◌>>=◌}
 use Rattle.store_directory.proofs.WrittenChanges.{changes_in-octets}
+use Rattle.time_index.specs.TimeIndex.{TimeIndex}
 use Rattle.request_laws.specs.Carrying.{HasCarried, HasEnded, count_of}
 use Rattle.request_laws.specs.Changing.{IsTableOf}
 use Rattle.request_laws.specs.Counting.{CanBeCarried, reports_on_table}
@@ -41,9 +42,9 @@ few_items items request = by (are_alone items) request.asked.few
 counted_low : (count reports : ℕ) → count_behind count reports < 16384
 counted_low count reports = omega arith
 
-pub ends : (blocks acks : ℕ) (d : Directory) (table : Table) (items : List Instruction) (changes : List Change) (next : Directory) → CanBeCarried items
-    → HasCarried blocks d table items (length items) changes next → HasEnded blocks d table acks items changes next
-ends blocks acks d table items changes next request walk =
+pub ends : (blocks acks : ℕ) (d : Directory) (table : Table) (items : List Instruction) (changes : List Change) (next : Directory) (indexes : List TimeIndex) → CanBeCarried items
+    → HasCarried blocks d table items (length items) changes next indexes → HasEnded blocks d table acks items changes next
+ends blocks acks d table items changes next indexes request walk =
     let n = reports_on_table blocks acks items table in
     let count = count_behind next.reports n in
     let change = count_of blocks acks items table next in

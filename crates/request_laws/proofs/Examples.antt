@@ -4,6 +4,8 @@ use Rattle.std.proofs.Common.{◌≡◌, ℕ, ◌<◌, ◌^◌, Bool, true, fals
 use Rattle.std.specs.Prelude.{All, drop}
 use Rattle.std.proofs.lemmas.List.Elements.{All-cons, All-nil}
 use Rattle.std.proofs.lemmas.Option.{same_Some}
+use Rattle.board.specs.Flash.{IsContent}
+use Rattle.board.proofs.Pages.{blank_page}
 use Rattle.control_defs.specs.Instructions.{IsInstruction}
 use Rattle.control_defs.specs.Lists.{IsPatternList}
 use Rattle.control_defs.specs.Patterns.{IsPattern}
@@ -29,10 +31,10 @@ use Rattle.store_load.proofs.KeptRows.{image_of}
 use Rattle.request_laws.specs.Carrying.{count_of}
 use Rattle.store_policy.specs.Shown.{AreIndexed, AreTogether}
 use Rattle.time_index.specs.TimeIndex.{TimeIndex}
-use Rattle.request_laws.specs.Changing.{HasIndexes, change_by}
+use Rattle.request_laws.specs.Changing.{BeginsWell, HasIndexes, change_by}
 use Rattle.request_laws.specs.Counting.{CanBeCarried, reports_made}
 use Rattle.request_laws.proofs.Ends as ending
-use Rattle.request_laws.proofs.Holding as holding
+use Rattle.request_laws.proofs.ShownTables as showing
 use Rattle.request_laws.proofs.Tables.{begin_held, of_held}
 use Rattle.request_laws.proofs.Walking as walking
 
@@ -62,6 +64,9 @@ image = image_of []
 held : table_by 16 image d ≡ Some table
 unfolding table_by kept_of is_lawful
 held = refl
+
+content : IsContent 16 image
+content p low = blank_page
 
 abbrev items : List Instruction
 items = Disable 1 ∷ Disable 3 ∷ Disable 2 ∷ []
@@ -183,8 +188,9 @@ together identifier storage = record { first = refl; count = refl; size = refl }
 has : HasIndexes table d indexes
 has = record { packets = (none_indexed, (none_indexed, tt)); together = (together 1 true, (together 2 true, tt)) }
 
-has_between : HasIndexes between made indexes
-has_between = record { packets = (none_indexed, (none_indexed, tt)); together = (together 1 false, (together 2 true, tt)) }
+begin_between : All BeginsWell made.stores
+begin_between =
+    All-cons BeginsWell (record (listed_of 1) { row = off 1 }) (listed_of 2 ∷ []) refl (All-cons BeginsWell (listed_of 2) [] refl (All-nil BeginsWell))
 
 each_one : (P : Instruction → Type 0) → ((store : ℕ) → store < 2 ^ 16 → P (Disable store)) → All P items
 each_one P is =
@@ -207,20 +213,20 @@ request = record {
 ended : (next last : Directory) × (apply_all d changes ≡ Some next) × (fold_entry d (entry_octets (changes ++ count_of 16 9 items table next ∷ [])) ≡ Some last)
     × (table_by 16 image last ≡ Some (record after { reports = 1 }))
 ended =
-    let begun = walking.begins 16 d table items kept (begin_held 16 image d table held) (of_held 16 image d table held) in
-    let one = walking.effects 16 d table items 0 [] d (Disable 1) begun refl request indexes between refl has (Put (off 1)) refl in
-    let two = walking.fails 16 d table items 1 (Put (off 1) ∷ []) one.next (Disable 3) one.walk refl unknown_store refl in
-    let three = walking.effects 16 d table items 2 (Put (off 1) ∷ []) one.next (Disable 2) two.walk refl request indexes after refl (has_behind one.next one.applied) (Put (off 2)) (found one.next one.applied) in
-    let end = ending.ends 16 9 d table items changes three.next request three.walk in (
+    let begun = walking.begins 16 d table items indexes kept refl (of_held 16 image d table held) has in
+    let one = walking.effects 16 d table items 0 [] d indexes (Disable 1) begun refl request between refl (begin_held 16 image d table held) (Put (off 1)) refl in
+    let two = walking.fails 16 d table items 1 (Put (off 1) ∷ []) one.next indexes (Disable 3) one.walk refl unknown_store refl in
+    let three = walking.effects 16 d table items 2 (Put (off 1) ∷ []) one.next indexes (Disable 2) two.walk refl request after refl (begin_behind one.next one.applied) (Put (off 2)) (found one.next one.applied) in
+    let end = ending.ends 16 9 d table items changes three.next indexes request three.walk in (
       three.next,
       end.last,
       three.walk.made,
       end.folded,
-      holding.held_behind 16 d table items 3 changes three.next three.walk image held 9 refl end,
+      showing.held_behind 16 d table items 3 changes three.next indexes three.walk 9 refl end image content held,
     )
   where
-    has_behind : (next : Directory) → apply d (Put (off 1)) ≡ Some next → HasIndexes between next indexes
-    has_behind next applied = subst (λ (x : Directory). HasIndexes between x indexes) (same_Some made next (sym put_one ∙ applied)) has_between
+    begin_behind : (next : Directory) → apply d (Put (off 1)) ≡ Some next → All BeginsWell next.stores
+    begin_behind next applied = subst (λ (x : Directory). All BeginsWell x.stores) (same_Some made next (sym put_one ∙ applied)) begin_between
 
     found : (next : Directory) → apply d (Put (off 1)) ≡ Some next → change_by next indexes (Disable 2) ≡ Some (Put (off 2))
     found next applied = subst (λ (x : Directory). change_by x indexes (Disable 2) ≡ Some (Put (off 2))) (same_Some made next (sym put_one ∙ applied)) refl

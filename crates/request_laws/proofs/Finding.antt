@@ -8,9 +8,11 @@ use Rattle.pst_model.specs.Changes.{is_named, with_store}
 use Rattle.pst_model.specs.Table.{Store, Stored}
 use Rattle.store_directory.specs.Directory.{Listed, find_store, put_store}
 use Rattle.store_directory.proofs.Puts.{swapped}
-use Rattle.request_laws.specs.Carrying.{packets_of}
 use Rattle.request_laws.specs.Changing.{AllKeepRecords, AreListedAs, IsListedAs, KeepsRecords}
 use Rattle.request_laws.proofs.Stays.{kept_same}
+
+abbrev pub packets_of : Store → List Stored
+packets_of store = store.packets
 
 swapped_by : (a b : ℕ) (test : Bool) → (a == b) ≡ test → (b == a) ≡ test
 swapped_by a b true is = ap (λ (n : ℕ). n == a) (sym (eqb-true a b is)) ∙ same a

@@ -9,13 +9,15 @@ pub mod Indexed
 pub mod Applying
 pub mod Storing
 pub mod Rerowed
+pub mod Holding
+pub mod Moves
 pub mod Deleting
 pub mod Removing
 pub mod Effects
 pub mod Walking
-pub mod Holding
 pub mod Tables
 pub mod Contents
 pub mod Reporting
 pub mod Ends
+pub mod ShownTables
 pub mod Examples

@@ -7,6 +7,7 @@ use Rattle.control_defs.specs.declared.patterns.Pattern.{Pattern}
 use Rattle.pst_model.specs.Changes.{asked_about, change_store, is_named, where_found, with_changed, with_store}
 use Rattle.pst_model.specs.Failures.{already_so, no_such_pattern, too_many_patterns, unless}
 use Rattle.pst_model.specs.Instructions.{add_pattern, delete_pattern, set_open, set_storage, with_forward, with_types}
+use Rattle.pst_model.specs.Stores.{remove, rest_checks, without_store}
 use Rattle.pst_model.specs.Table.{Store, Table}
 use Rattle.pst_model.proofs.Effects.{Passed, unless_ok}
 
@@ -69,6 +70,22 @@ pub was_checked : {X : Type 0} (checks : List (Bool × ℕ)) (outcome made : X) 
 was_checked {X} checks outcome made is =
     subst (λ (r : Result X ℕ). IfOk r (λ x. x ≡ made → Checked checks outcome made)) is
     (unless_ok (λ x. x ≡ made → Checked checks outcome made) checks outcome (λ passed same. record { passed = passed; made_is = same })) refl
+
+-- a store that stands was removed
+pub record Removed (identifier : ℕ) (table made : Table) : Type 0 where
+  pub store : Store
+  pub found : find (is_named identifier) table.stores ≡ Some store
+  pub checked : Checked (rest_checks store) (record table { stores = without_store identifier table.stores }) made
+
+pub was_removed : (identifier : ℕ) (table made : Table) → remove identifier table ≡ Ok made → Removed identifier table made
+was_removed identifier table made is = by (find (is_named identifier) table.stores) refl is
+  where
+    without : Table
+    without = record table { stores = without_store identifier table.stores }
+
+    by : (found : Option Store) → find (is_named identifier) table.stores ≡ found → where_found (λ (store : Store). unless (rest_checks store) without) found ≡ Ok made → Removed identifier table made
+    by None found is = absurd (no_Ok is)
+    by (Some store) found is = record { store = store; found = found; checked = was_checked (rest_checks store) without made is }
 
 -- flags
 

@@ -1,16 +1,15 @@
 -- A store goes, with its packets.
-use Rattle.std.proofs.Common.{◌≡◌, ℕ, ◌+◌, ◌≤◌, ◌==◌, Bool, true, false, not, true≢false, List, [], ◌∷◌, ◌++◌, append_assoc, drop, length, Option, Some, None, Ok, refl, sym, ◌∙◌, ap, subst, arith}
-use Rattle.std.specs.Prelude.{All, find, nat_le, ◌&&◌}
+use Rattle.std.proofs.Common.{◌≡◌, ℕ, ◌+◌, ◌≤◌, ◌==◌, Bool, true, false, not, true≢false, List, [], ◌∷◌, ◌++◌, append_assoc, drop, length, Option, Some, Ok, refl, sym, ◌∙◌, ap, subst, arith}
+use Rattle.std.specs.Prelude.{All, nat_le, ◌&&◌}
 use Rattle.std.specs.List.{list_all}
 use Rattle.std.proofs.lemmas.Bool.{and_from, and_parts, cond-false, cond-true, eqb-true, le-leb, leb-true, not-true}
 use Rattle.std.proofs.lemmas.List.{drop_all}
 use Rattle.std.proofs.lemmas.List.Elements.{All-cons, All-head, All-tail}
 use Rattle.image_table.specs.Table.{store_of}
 use Rattle.image_table.proofs.Frames.{loads_table, table_loads}
-use Rattle.pst_model.specs.Changes.{is_named, where_found}
-use Rattle.pst_model.specs.Failures.{unless}
+use Rattle.pst_model.specs.Changes.{is_named}
 use Rattle.pst_model.specs.Stores as model
-use Rattle.pst_model.specs.Stores.{remove, rest_checks}
+use Rattle.pst_model.specs.Stores.{remove}
 use Rattle.pst_model.specs.Table.{Store, Table}
 use Rattle.put_laws.proofs.Named.{apart_fewer, links_around}
 use Rattle.record_view.specs.declared.link.Link.{Link}
@@ -24,12 +23,12 @@ use Rattle.store_load.specs.Each.{each}
 use Rattle.store_load.proofs.Eachs.{each_cons, each_more}
 use Rattle.store_policy.specs.Shown.{AreAllIndexed, AreAllTogether}
 use Rattle.time_index.specs.TimeIndex.{TimeIndex}
-use Rattle.request_laws.specs.Changing.{AreListedAs, HasIndexes, IsTableOf}
-use Rattle.request_laws.specs.Leaving.{Moves, Removes, without_for}
+use Rattle.request_laws.specs.Changing.{AreListedAs, Goes, HasIndexes, IsTableOf, without_for}
 use Rattle.request_laws.proofs.Deleting.{around}
-use Rattle.request_laws.proofs.Finding.{found_as, named_as}
+use Rattle.request_laws.proofs.Finding.{found_as, found_has, named_as}
 use Rattle.request_laws.proofs.Holding.{whole_is}
-use Rattle.request_laws.proofs.Outcomes.{no_Ok, was_checked}
+use Rattle.request_laws.proofs.Moves.{Moves}
+use Rattle.request_laws.proofs.Outcomes.{was_removed}
 
 -- what the others are without the one in the middle
 
@@ -69,7 +68,7 @@ within_without test (x ∷ front) back s all =
     let parts = and_parts (test x) (list_all test (front ++ s ∷ back)) all in
     and_from (test x) (list_all test (front ++ back)) parts.0 (within_without test front back s parts.1)
 
-links_both : (front back : List Listed) → all_links (front ++ back) ≡ all_links front ++ all_links back
+pub links_both : (front back : List Listed) → all_links (front ++ back) ≡ all_links front ++ all_links back
 links_both [] back = refl
 links_both (x ∷ front) back = ap (λ (l : List Link). x.links ++ l) (links_both front back) ∙ sym (append_assoc x.links (all_links front) (all_links back))
 
@@ -88,7 +87,7 @@ shared_without blocks front back s share =
 
 -- the table, of which each store with the identifier goes: there is one
 
-abbrev others : (identifier : ℕ) → List Store → List Store
+abbrev pub others : (identifier : ℕ) → List Store → List Store
 others identifier stores = model.without_store identifier stores
 
 none_named : (identifier : ℕ) (stores : List Store) (listed : List Listed) → AreListedAs stores listed → is_new identifier (identifiers listed) ≡ true → others identifier stores ≡ stores
@@ -210,9 +209,10 @@ without_held image now identifier (x ∷ stores) [] are distinct held = absurd a
 
 pub gone : (blocks : ℕ) (d : Directory) (table : Table) (indexes : List TimeIndex) (identifier : ℕ) (s : Listed) → IsDirectory d → may_share 240 blocks d.stores ≡ true
     → IsTableOf table d → HasIndexes table d indexes → find_store identifier d.stores ≡ Some s
-    → Moves blocks d table (record table { stores = others identifier table.stores }) (Gone identifier) (without_for identifier d.stores indexes)
+    → s.identifier ≡ identifier
+    → Moves blocks d table (record table { stores = others identifier table.stores }) (λ (next : Directory). Goes identifier d next) (Gone identifier) (without_for identifier d.stores indexes)
 unfolding apply
-gone blocks d table indexes identifier s directory share is_of has found =
+gone blocks d table indexes identifier s directory share is_of has found own =
     let place = around identifier d.stores s found in
     let after : Directory = with_stores d (without_store identifier d.stores) in
     let parted = place.parted in
@@ -243,9 +243,16 @@ gone blocks d table indexes identifier s directory share is_of has found =
       applied =
           with-some d (remove_store identifier d.stores) (without_store identifier d.stores)
           (ap (λ (o : Option Listed). o >>= λ (_ : Listed). Some (without_store identifier d.stores)) found);
+      fits = let listed = found_has IsListed identifier d.stores s directory.stores.each found in omega (arith, own, listed.fits.identifier);
+      can_be_written = tt;
+      in_range = tt;
+      short = omega arith;
       directory = kept;
       share = shared;
+      step = record { s = s; found = found; stores = refl };
       is_of = of_it;
+      now = refl;
+      reports = refl;
       has = record {
         packets = without_indexed identifier table.stores d.stores indexes is_of.stores directory.stores.distinct has.packets;
         together = without_together identifier d.stores indexes has.together;
@@ -261,23 +268,21 @@ gone blocks d table indexes identifier s directory share is_of has found =
           });
     }
 
+-- A store goes with its packets, by one change.
+pub record Removes (blocks : ℕ) (d : Directory) (table made : Table) (indexes : List TimeIndex) (identifier : ℕ) : Type 0 where
+  pub s : Listed
+  pub found : find_store identifier d.stores ≡ Some s
+  pub moves : Moves blocks d table made (λ (next : Directory). Goes identifier d next) (Gone identifier) (without_for identifier d.stores indexes)
+
 pub removes : (blocks : ℕ) (d : Directory) (table made : Table) (indexes : List TimeIndex) (identifier : ℕ) → IsDirectory d → may_share 240 blocks d.stores ≡ true
     → IsTableOf table d → HasIndexes table d indexes → remove identifier table ≡ Ok made → Removes blocks d table made indexes identifier
-removes blocks d table made indexes identifier directory share is_of has ok = by (find (is_named identifier) table.stores) refl ok
-  where
-    without : Table
-    without = record table { stores = others identifier table.stores }
-
-    by : (found : Option Store) → find (is_named identifier) table.stores ≡ found → where_found (λ (store : Store). unless (rest_checks store) without) found ≡ Ok made
-        → Removes blocks d table made indexes identifier
-    by None found is = absurd (no_Ok is)
-    by (Some store) found is =
-        let there = found_as identifier table.stores d.stores store is_of.stores found in
-        let checked = was_checked (rest_checks store) without made is in
-        record {
-          s = there.s;
-          found = there.found;
-          moves =
-              subst (λ (x : Table). Moves blocks d table x (Gone identifier) (without_for identifier d.stores indexes)) checked.made_is
-              (gone blocks d table indexes identifier there.s directory share is_of has there.found);
-        }
+removes blocks d table made indexes identifier directory share is_of has ok =
+    let went = was_removed identifier table made ok in
+    let there = found_as identifier table.stores d.stores went.store is_of.stores went.found in
+    record {
+      s = there.s;
+      found = there.found;
+      moves =
+          subst (λ (x : Table). Moves blocks d table x (λ (next : Directory). Goes identifier d next) (Gone identifier) (without_for identifier d.stores indexes)) went.checked.made_is
+          (gone blocks d table indexes identifier there.s directory share is_of has there.found there.own);
+    }

@@ -8,16 +8,16 @@ use Rattle.control_defs.specs.declared.instructions.Instruction.{Instruction}
 use Rattle.control_defs.specs.declared.instructions.Instruction.TheVariants.{ForwardAdd, ForwardDelete, ForwardReport, Enable, Disable, AddTypes, DeleteTypes, ReportTypes, StartRange, DeleteUpTo, Summary, OpenFrom, Resume, Suspend, Abort, Status, Create, Remove, Configuration, Copy, Resize, ToCircular, ToBounded, Channel}
 use Rattle.control_defs.specs.declared.instructions.StoreKind.TheVariants.{Circular, Bounded}
 use Rattle.retrieval.specs.Picks.{opened_row, ranged_row}
-use Rattle.store_directory.specs.Changes.{Change, Forward, Put, Types}
+use Rattle.store_directory.specs.Changes.{Change, Forward, Gone, Put, Types}
 use Rattle.store_directory.specs.Directory.{Directory, Listed, find_store}
 use Rattle.store_directory.specs.Kept.{NeedsRoom}
 use Rattle.store_directory.specs.Slots.{size_of}
 use Rattle.store_directory.specs.declared.row.Row.{Row}
 use Rattle.time_index.specs.TimeIndex.{TimeIndex}
-use Rattle.request_laws.specs.Changing.{change_by, index_for, put_by, with_channel, with_kind, with_open, with_storage, without_range}
+use Rattle.request_laws.specs.Changing.{change_by, deleted_row, index_for, put_by, with_channel, with_kind, with_open, with_storage, without_range}
 
 -- a store that is found has the identifier
-found_own : (identifier : ℕ) (listed : List Listed) (s : Listed) → find_store identifier listed ≡ Some s → identifier ≡ s.identifier
+pub found_own : (identifier : ℕ) (listed : List Listed) (s : Listed) → find_store identifier listed ≡ Some s → identifier ≡ s.identifier
 found_own identifier [] s is = absurd (none-some s is)
 found_own identifier (l ∷ listed) s is = by (identifier == l.identifier) refl (found_own identifier listed s) is
   where
@@ -60,13 +60,13 @@ module _ (d : Directory) (indexes : List TimeIndex) (change : Change) (largest :
   none_here ForwardReport is needs = none-some change is
   none_here (ReportTypes store) is needs = none-some change is
   none_here (StartRange store t1 t2) is needs = put_none store (ranged_row t1 t2 (index_for store d.stores indexes)) (λ row. (refl, refl)) is needs
-  none_here (DeleteUpTo store t) is needs = none-some change is
+  none_here (DeleteUpTo store t) is needs = put_none store (deleted_row t (index_for store d.stores indexes)) (λ row. (refl, refl)) is needs
   none_here (Summary store) is needs = none-some change is
   none_here (OpenFrom store t) is needs = put_none store (opened_row t (index_for store d.stores indexes)) (λ row. (refl, refl)) is needs
   none_here (Abort store) is needs = put_none store without_range (λ row. (refl, refl)) is needs
   none_here Status is needs = none-some change is
   none_here (Create store kind size channel) is needs = none-some change is
-  none_here (Remove store) is needs = none-some change is
+  none_here (Remove store) is needs = by_store store (λ (_ : Listed). Gone store) (λ s within more. more) is needs
   none_here Configuration is needs = none-some change is
   none_here (Copy from to t1 t2) is needs = none-some change is
   none_here (Resize store size) is needs = none-some change is

@@ -1,60 +1,66 @@
 -- A request on its way through its instructions. Its entry has one change for each that takes effect and
 -- does more than ask, and last the change of the clock, which counts all its reports.
-use Rattle.std.specs.Prelude.{◌≡◌, ◌≤◌, ℕ, ◌+◌, ◌*◌, All, List, [], ◌∷◌, ◌++◌, length, map, take, Some}
+use Rattle.std.specs.Prelude.{◌≡◌, ◌≤◌, ℕ, ◌+◌, ◌*◌, All, List, [], ◌∷◌, ◌++◌, length, take, true, Some}
+use Rattle.board.specs.Flash.{IsContent}
 use Rattle.control_defs.specs.declared.instructions.Instruction.{Instruction}
 use Rattle.image_table.specs.Granting.{counted}
+use Rattle.image_table.specs.Table.{table_by}
 use Rattle.pst_model.specs.Answers.{Carried, carry_out}
-use Rattle.pst_model.specs.Table.{Store, Stored, Table}
+use Rattle.pst_model.specs.Table.{Table}
 use Rattle.store_directory.specs.Changes.{Change, apply, apply_all}
 use Rattle.store_directory.specs.Directory.{Directory, IsDirectory}
 use Rattle.store_directory.specs.Entries.{CanBeWritten, FitsChange, entry_octets}
 use Rattle.store_directory.specs.Folds.{fold_entry}
 use Rattle.store_directory.specs.Kept.{IsChange}
+use Rattle.store_load.specs.Claims.{may_share}
 use Rattle.store_policy.specs.declared.view.View.{View}
-use Rattle.request_laws.specs.Changing.{AllKeepRecords, BeginsWell, IsTableOf}
+use Rattle.time_index.specs.TimeIndex.{TimeIndex}
+use Rattle.request_laws.specs.Changing.{HasIndexes, IsTableOf, StepsBy, indexes_by}
 use Rattle.request_laws.specs.Counting.{reports_on_table, table_behind}
 
 -- what the first instructions, so many of them, make of a table, and which of them fail
 abbrev pub carried_up_to : (blocks : ℕ) → List Instruction → (at : ℕ) → Table → Carried
 carried_up_to blocks items at table = carry_out blocks (take at items) table
 
-abbrev pub packets_of : Store → List Stored
-packets_of store = store.packets
-
 -- The first instructions of a request, so many of them, were carried out on a table of a directory.
--- These changes, one for each at most, make the next directory, which is that of the model's table so
--- far. They can be written, in 30 octets each at most. Each store keeps its records and its packets.
+-- These changes, one for each at most, make the next directory, which with these indexes is that of the
+-- model's table so far. They can be written, in 30 octets each at most. Each image that held the table
+-- holds by the next directory what the instructions made of it.
 pub record HasCarried (blocks : ℕ) (d : Directory) (table : Table) (items : List Instruction) (at : ℕ)
-    (changes : List Change) (next : Directory) : Type 0 where
+    (changes : List Change) (next : Directory) (indexes : List TimeIndex) : Type 0 where
   pub made : apply_all d changes ≡ Some next
   pub written : All FitsChange changes
   pub short : length (entry_octets changes) ≤ 30 * at
   pub directory : IsDirectory next
-  pub begins : All BeginsWell next.stores
+  pub share : may_share 240 blocks next.stores ≡ true
   pub is_of : IsTableOf (carried_up_to blocks items at table).table next
+  pub has : HasIndexes (carried_up_to blocks items at table).table next indexes
   pub now : next.now ≡ d.now
   pub reports : next.reports ≡ d.reports
-  pub records : AllKeepRecords d.stores next.stores
-  pub packets : map packets_of (carried_up_to blocks items at table).table.stores
-      ≡ map packets_of table.stores
+  pub held : (image : ℕ → List ℕ) → IsContent blocks image → table_by blocks image d ≡ Some table
+      → table_by blocks image next ≡ Some (carried_up_to blocks items at table).table
 
 -- The next instruction failed, or asked for something: no change was made. These are its failures, one or
 -- none.
 pub record HasPassed (blocks : ℕ) (d : Directory) (table : Table) (items : List Instruction) (at : ℕ)
-    (changes : List Change) (next : Directory) (more : List (ℕ × ℕ)) : Type 0 where
-  pub walk : HasCarried blocks d table items (at + 1) changes next
+    (changes : List Change) (next : Directory) (indexes : List TimeIndex) (more : List (ℕ × ℕ))
+    : Type 0 where
+  pub walk : HasCarried blocks d table items (at + 1) changes next indexes
   pub failures : (carried_up_to blocks items (at + 1) table).failures
       ≡ (carried_up_to blocks items at table).failures ++ more
 
 -- The next instruction took effect by this change, which fits and can be written.
 pub record HasChanged (blocks : ℕ) (d : Directory) (table : Table) (items : List Instruction) (at : ℕ)
-    (changes : List Change) (before : Directory) (change : Change) : Type 0 where
+    (changes : List Change) (before : Directory) (indexes : List TimeIndex) (item : Instruction)
+    (change : Change) : Type 0 where
   pub next : Directory
   pub applied : apply before change ≡ Some next
   pub fits : FitsChange change
   pub can_be_written : CanBeWritten change
   pub in_range : IsChange change
+  pub step : StepsBy item before indexes next
   pub walk : HasCarried blocks d table items (at + 1) (changes ++ change ∷ []) next
+      (indexes_by before indexes item)
   pub failures : (carried_up_to blocks items (at + 1) table).failures
       ≡ (carried_up_to blocks items at table).failures
 
@@ -81,8 +87,7 @@ pub record HasEnded (blocks : ℕ) (d : Directory) (table : Table) (acks : ℕ) 
   pub now : last.now ≡ d.now
   pub is_of : IsTableOf (table_behind blocks acks items table) last
 
--- Memory before and behind changes that make another directory, with the same indexes.
-pub record IsViewBehind (d next : Directory) (view after : View) : Type 0 where
-  pub before : view.directory.now.directory ≡ d
-  pub behind : after.directory.now.directory ≡ next
-  pub indexes : after.indexes.now ≡ view.indexes.now
+-- What is shown of a directory and indexes.
+pub record IsViewWith (d : Directory) (kept : List TimeIndex) (view : View) : Type 0 where
+  pub directory : view.directory.now.directory ≡ d
+  pub indexes : view.indexes.now ≡ kept

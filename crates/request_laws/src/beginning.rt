@@ -1,11 +1,13 @@
 // Laws on a table and its directory, before a request.
-ghost use Rattle.std.specs.Prelude.{◌≡◌, ℕ, All, List, [], Some, false};
+ghost use Rattle.std.specs.Prelude.{◌≡◌, ℕ, All, List, [], Some, false, true};
 ghost use Rattle.control_defs.specs.declared.instructions.Instruction.{Instruction};
 ghost use Rattle.image_table.specs.Table.{table_by};
 ghost use Rattle.pst_model.specs.Answers.{is_pending};
 ghost use Rattle.pst_model.specs.Requests.{AreAsked};
 ghost use Rattle.pst_model.specs.Table.{Table};
 ghost use Rattle.store_directory.specs.Directory.{Directory, IsDirectory};
+ghost use Rattle.store_load.specs.Claims.{may_share};
+ghost use Rattle.time_index.specs.TimeIndex.{TimeIndex};
 ghost use Rattle.store_policy.specs.Shown.{AreAllTogether, IsTableShown};
 ghost use Rattle.store_policy.specs.declared.view.View.{View};
 ghost use Rattle.request_laws.specs.Carrying.{HasCarried};
@@ -39,8 +41,9 @@ pub fn shown_tables_have_indexes()
 /// Before the first instruction nothing is changed.
 pub fn requests_begin()
     ensures { (blocks : ℕ) (d : Directory) (table : Table) (items : List Instruction)
-        → IsDirectory d → All BeginsWell d.stores → IsTableOf table d
-        → HasCarried blocks d table items 0 [] d }
+        (indexes : List TimeIndex) → IsDirectory d → may_share 240 blocks d.stores ≡ true
+        → IsTableOf table d → HasIndexes table d indexes
+        → HasCarried blocks d table items 0 [] d indexes }
 {}
 
 /// The instructions of a request of a kind that is carried out can be carried out.

@@ -8,7 +8,6 @@ mod carrying;
 mod counting;
 mod ending;
 mod keeping;
-mod leaving;
 mod showing;
 
 pub use beginning::{
@@ -19,5 +18,4 @@ pub use carrying::{instructions_ask, instructions_fail, instructions_take_effect
 pub use counting::reports_are_counted;
 pub use ending::requests_end;
 pub use keeping::{changes_take_no_memory, records_stay_in_place, stores_stay_in_place};
-pub use leaving::{deletions_leave_the_front, removals_leave_the_others};
 pub use showing::{carried_tables_are_held, carried_tables_are_shown};

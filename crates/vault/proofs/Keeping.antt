@@ -27,7 +27,7 @@ all_together now (s ∷ stores) [] lasts each = absurd each
 all_together now (s ∷ stores) (i ∷ indexes) [] each = absurd each
 all_together now (s ∷ stores) (i ∷ indexes) (l ∷ lasts) each = (each.0.together, all_together now stores indexes lasts each.1)
 
-all_kept : (old new : List Listed) → AllKeepRecords old new → KeepRecords old new
+pub all_kept : (old new : List Listed) → AllKeepRecords old new → KeepRecords old new
 all_kept [] [] keep = tt
 all_kept [] (t ∷ new) keep = absurd keep
 all_kept (s ∷ old) [] keep = absurd keep

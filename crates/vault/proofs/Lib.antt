@@ -14,9 +14,11 @@ pub mod SameRecords
 pub mod DataBlocks
 pub mod Entered
 pub mod Counted
+pub mod Keeping
+pub mod Moving
 pub mod CarriedOut
 pub mod Prepared
-pub mod Keeping
+pub mod Committed
 pub mod RequestStands
 pub mod OneInstruction
 pub mod Found
@@ -29,7 +31,6 @@ pub mod GrantAnswers
 pub mod Rooms
 pub mod BegunPuts
 pub mod OfferedSoFar
-pub mod Committed
 pub mod PutPackets
 pub mod CommittedPuts
 pub mod Outcomes

@@ -1,6 +1,6 @@
 -- The images while a request is carried out, and the vault in the end: room is made, and then the entry is added.
 use Rattle.std.proofs.Common.{◌≡◌, inl, ℕ, List, Some, sym, subst}
-use Rattle.block_pool.specs.Blocks.{IsPool}
+use Rattle.block_pool.specs.Blocks.{Blocks, IsPool}
 use Rattle.board.specs.Device.{Device}
 use Rattle.board.specs.Flash.{IsContent, IsImage, loosened}
 use Rattle.board.specs.Meaning.{BoardMeaning, TellsFlash}
@@ -18,11 +18,15 @@ use Rattle.store_directory.specs.Directory.{Directory}
 use Rattle.store_directory.specs.Folds.{fold_entry}
 use Rattle.store_directory.specs.Kept.{Kept}
 use Rattle.store_policy.specs.declared.refusal.Refusal.{Refusal}
+use Rattle.time_index.specs.TimeIndex.{TimeIndex}
+use Rattle.vault.proofs.Committed.{IsSettled}
 use Rattle.vault.proofs.RequestStands.{either_held, request_stands, still_held}
 use Rattle.vault.specs.Changing.{HoldsOne, IsKept, journal_pages}
+use Rattle.vault.specs.Following.{stores_of}
 use Rattle.vault.specs.Memory.{InMemory, IsSound}
 use Rattle.vault.specs.Requests.{IsPrepared}
 use Rattle.vault.specs.Standing.{StandsFor}
+use Rattle.vault.specs.declared.last_block.LastBlock.{LastBlock}
 
 module _ {B : Type 0} (means : BoardMeaning B) (old mid : B) (vault : InMemory) (by : vault.blocks ≡ (means.device old).blocks) (sound : IsSound vault)
     (told : TellsFlash means old) (table : Table) (stands : StandsFor vault (means.flash old) table) where
@@ -45,8 +49,8 @@ module _ {B : Type 0} (means : BoardMeaning B) (old mid : B) (vault : InMemory) 
       (subst (λ (m : ℕ). LeavesOnly means old mid (IsImage m (loosened journal_pages (means.flash old)))) (sym by) (leaves told))
       (still_held vault (means.flash old) table after sound stands)
 
-  module _ (new : B) (acks : ℕ) (items : List Instruction) (next : Kept) (refused : List (ℕ × Refusal)) (text : List ℕ)
-      (prepared : IsPrepared vault.blocks acks vault.indexes items d next.directory refused text) (same : means.device mid ≡ means.device old)
+  module _ (new : B) (acks : ℕ) (items : List Instruction) (next : Kept) (indexes : List TimeIndex) (lasts : List LastBlock) (refused : List (ℕ × Refusal)) (text : List ℕ)
+      (prepared : IsPrepared vault.blocks acks items (stores_of vault) (record { directory = next.directory; indexes = indexes; lasts = lasts }) refused text) (same : means.device mid ≡ means.device old)
       (holds : TellsFlash means old → IsKept n d (means.flash old) → IsKept n d (means.flash mid)) where
     abbrev last : Directory
     last = next.directory
@@ -72,14 +76,15 @@ module _ {B : Type 0} (means : BoardMeaning B) (old mid : B) (vault : InMemory) 
         leaves_both means old new (HoldsOne vault.blocks d last) (IsImage vault.blocks (loosened journal_pages (means.flash old))) (HoldsEitherTable vault.blocks table behind)
         (subst (λ (m : ℕ). LeavesOnly means old new (HoldsOne m d last)) (sym by) both)
         (subst (λ (m : ℕ). LeavesOnly means old new (IsImage m (loosened journal_pages (means.flash old)))) (sym by) (leaves told))
-        (either_held vault acks items next refused text prepared sound (means.flash old) table stands)
+        (either_held vault acks items next indexes lasts refused text prepared sound (means.flash old) table stands)
 
-    pub stands_last : (journal : journals.Kept) → IsPool vault.pool → IsContent n (means.flash new).content → KeptElsewhere journal_pages (means.flash old) (means.flash new)
+    pub stands_last : (pool : Blocks) (settled : IsSettled next.stores vault.pool pool) (journal : journals.Kept) → IsPool vault.pool → IsContent n (means.flash new).content → KeptElsewhere journal_pages (means.flash old) (means.flash new)
         → (TellsFlash means mid → (before after : Directory) → IsKept (means.device mid).blocks before (means.flash mid) → fold_entry before text ≡ Some after
         → IsKept (means.device mid).blocks after (means.flash new))
-        → journals.StandsFor journal (means.flash new) → StandsFor (record vault { directory = next; journal = journal }) (means.flash new) behind
-    stands_last journal is_pool pages kept entry journal_is =
-        request_stands vault acks items next refused text prepared sound (means.flash old) table stands (means.flash new) journal is_pool
+        → journals.StandsFor journal (means.flash new)
+        → StandsFor (record vault { directory = next; indexes = indexes; lasts = lasts; pool = pool; journal = journal }) (means.flash new) behind
+    stands_last pool settled journal is_pool pages kept entry journal_is =
+        request_stands vault acks items next indexes lasts refused text prepared sound (means.flash old) table stands (means.flash new) pool settled journal is_pool
         (subst (λ (m : ℕ). IsContent m (means.flash new).content) (sym by) pages) kept
         (subst (λ (m : ℕ). IsKept m last (means.flash new)) (sym by)
         (subst (λ (v : Device). IsKept v.blocks last (means.flash new)) same (entry (tells_too same told) d last kept_mid prepared.folded)))

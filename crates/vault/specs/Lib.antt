@@ -2,6 +2,7 @@ pub mod Answers
 pub mod Memory
 pub mod Loading
 pub mod Standing
+pub mod Following
 pub mod Changing
 pub mod Requests
 pub mod Opening

@@ -1,16 +1,21 @@
 // The instructions of a request, carried out in memory, and the text of the entry that makes them
 // durable: of each that takes effect its change, one behind another.
-ghost use Rattle.std.specs.Prelude.{◌≡◌, ◌+◌, ◌*◌, ◌≤◌, ◌<◌, ◌^◌, All, IfOk, OnErr, length};
+ghost use Rattle.std.specs.Prelude.{◌≡◌, ◌+◌, ◌*◌, ◌≤◌, ◌<◌, ◌^◌, All, IfOk, OnErr, length, true};
 ghost use Rattle.control_defs.specs.Instructions.{IsInstruction};
 ghost use Rattle.pst_model.specs.Instructions.{instruct};
-ghost use Rattle.request_laws.specs.Changing.{BeginsWell, change_by};
+ghost use Rattle.request_laws.specs.Changing.{change_by};
 ghost use Rattle.request_laws.specs.Counting.{CanBeCarried};
 ghost use Rattle.store_directory.specs.Directory.{reserved_by};
+ghost use Rattle.store_load.specs.Claims.{may_share};
 ghost use Rattle.store_policy.specs.Agreement.{Agrees};
 ghost use Rattle.store_policy.specs.Shown.{AreAllTogether};
+ghost use Rattle.vault.specs.Following.{Stores};
+ghost use Rattle.vault.specs.Memory.{EachStore, IsSoundStore};
 ghost use Rattle.vault.specs.Requests.{AreCarriedOut, OfShown, TakesEffect, verdict_of};
 
 use crate::change_for::change_for;
+use crate::following::follow;
+use crate::last_block::LastBlock;
 use arrayvec::ArrayVec;
 use control_defs::Instruction;
 use std::alloc::Global;
@@ -32,17 +37,29 @@ pub(crate) struct Carried {
 fn take_effect(
     alloc: Global,
     directory: &mut Directory,
-    indexes: &[Index],
+    indexes: &mut Vec<Index>,
+    lasts: &mut Vec<LastBlock>,
     item: &Instruction,
     at: u32,
     out: &mut [u8],
 ) -> u32
-    requires indexes { length indexes.now ≡ length directory.old.stores }
+    requires lasts { length lasts.old.items ≡ length directory.old.stores }
+    requires together { AreAllTogether directory.old.stores indexes.old.items }
     requires lawful { IsInstruction item.now }
     requires room { at + 30 ≤ length out.old }
     requires short { at + 30 < 2 ^ 32 }
-    ensures effect { TakesEffect (change_by directory.old.directory indexes.now item.now)
-        directory.old.directory directory.new.directory at result out.old out.new }
+    ensures effect { TakesEffect item.now
+        (change_by directory.old.directory indexes.old.items item.now)
+        (record {
+          directory = directory.old.directory;
+          indexes = indexes.old.items;
+          lasts = lasts.old.items;
+        })
+        (record {
+          directory = directory.new.directory;
+          indexes = indexes.new.items;
+          lasts = lasts.new.items;
+        }) at result out.old out.new }
     ensures end { result ≤ at + 30 }
 {
     let Some(change) = change_for(directory, indexes, item) else {
@@ -50,6 +67,7 @@ fn take_effect(
     };
     // the number of stores is not used: with it comes that no store is greater than it has been
     let _ = directory.len();
+    follow(directory, indexes, lasts, item);
     let _ = directory.apply(alloc, &change);
     write_change(&change, at, out)
 }
@@ -59,26 +77,39 @@ fn take_effect(
 fn carry_out(
     alloc: Global,
     directory: &mut Directory,
-    indexes: &[Index],
+    indexes: &mut Vec<Index>,
+    lasts: &mut Vec<LastBlock>,
     blocks: u32,
     item: &Instruction,
     at: u32,
     out: &mut [u8],
 ) -> Result<u32, Refusal>
-    requires indexes { length indexes.now ≡ length directory.old.stores }
+    requires lasts { length lasts.old.items ≡ length directory.old.stores }
+    requires together { AreAllTogether directory.old.stores indexes.old.items }
     requires least { 16 ≤ blocks }
     requires most { blocks ≤ 512 }
     requires reserved { reserved_by directory.old.stores + 8 ≤ blocks }
     requires lawful { IsInstruction item.now }
     requires room { at + 30 ≤ length out.old }
     requires short { at + 30 < 2 ^ 32 }
-    ensures agrees { OfShown directory.old.directory indexes.now
+    ensures agrees { OfShown directory.old.directory indexes.old.items
         (λ table. Agrees (verdict_of result) (instruct blocks item.now table)) }
-    ensures effect { IfOk result (λ end. TakesEffect
-        (change_by directory.old.directory indexes.now item.now) directory.old.directory
-        directory.new.directory at end out.old out.new) }
+    ensures effect { IfOk result (λ end. TakesEffect item.now
+        (change_by directory.old.directory indexes.old.items item.now)
+        (record {
+          directory = directory.old.directory;
+          indexes = indexes.old.items;
+          lasts = lasts.old.items;
+        })
+        (record {
+          directory = directory.new.directory;
+          indexes = indexes.new.items;
+          lasts = lasts.new.items;
+        }) at end out.old out.new) }
     ensures end { IfOk result (λ end. end ≤ at + 30) }
     ensures same { OnErr result (directory.new ≡ directory.old) }
+    ensures indexes { OnErr result (indexes.new.items ≡ indexes.old.items) }
+    ensures lasts { OnErr result (lasts.new.items ≡ lasts.old.items) }
     ensures text { OnErr result (out.new ≡ out.old) }
 {
     let view = View {
@@ -87,7 +118,7 @@ fn carry_out(
         blocks,
     };
     check(&view, item)?;
-    Ok(take_effect(alloc, directory, indexes, item, at, out))
+    Ok(take_effect(alloc, directory, indexes, lasts, item, at, out))
 }
 
 /// Carries out the instructions of a request, and writes their changes at the front of `out`, 30
@@ -95,21 +126,31 @@ fn carry_out(
 pub(crate) fn carry_out_all(
     alloc: Global,
     directory: &mut Directory,
-    indexes: &[Index],
+    indexes: &mut Vec<Index>,
+    lasts: &mut Vec<LastBlock>,
     blocks: u32,
     items: &[Instruction],
     out: &mut [u8],
 ) -> Carried
-    requires together { AreAllTogether directory.old.stores indexes.now }
-    requires begins { All BeginsWell directory.old.stores }
+    requires stores { EachStore (IsSoundStore directory.old.now) directory.old.stores
+        indexes.old.items lasts.old.items }
+    requires share { may_share 240 blocks directory.old.stores ≡ true }
     requires least { 16 ≤ blocks }
     requires most { blocks ≤ 512 }
-    requires reserved { reserved_by directory.old.stores + 8 ≤ blocks }
     requires carried { CanBeCarried items.now }
     requires room { length out.old ≡ 65536 }
-    ensures carried { AreCarriedOut blocks indexes.now items.now (length items.now)
-        directory.old.directory directory.new.directory result.refused.items
-        result.size out.old out.new }
+    ensures carried { AreCarriedOut blocks items.now (length items.now)
+        (record {
+          directory = directory.old.directory;
+          indexes = indexes.old.items;
+          lasts = lasts.old.items;
+        })
+        (record {
+          directory = directory.new.directory;
+          indexes = indexes.new.items;
+          lasts = lasts.new.items;
+        })
+        result.refused.items result.size out.old out.new }
     ensures few { length result.refused.items ≤ length items.now }
     ensures size { result.size ≤ 30 * length items.now }
 {
@@ -118,7 +159,9 @@ pub(crate) fn carry_out_all(
     let mut refused = ArrayVec::new();
     let mut size = 0;
     for at in 0..items.len() {
-        match carry_out(alloc, directory, indexes, blocks, &items[at], size, out) {
+        match carry_out(
+            alloc, directory, indexes, lasts, blocks, &items[at], size, out,
+        ) {
             Ok(end) => size = end,
             Err(refusal) => refused.push((at as u8 + 1, refusal)),
         }

@@ -1,14 +1,15 @@
 // The change of the directory that an instruction makes.
-ghost use Rattle.std.specs.Prelude.{◌≡◌, length, None};
+ghost use Rattle.std.specs.Prelude.{◌≡◌, None};
 ghost use Rattle.std.specs.Option.{option_map};
-ghost use Rattle.request_laws.specs.Changing.{change_by, index_for, put_by, with_channel, with_kind, with_open, with_storage, without_range};
+ghost use Rattle.request_laws.specs.Changing.{change_by, index_for, put_by, with_channel, with_kind, with_open, with_storage, without_range, deleted_row};
 ghost use Rattle.retrieval.specs.Picks.{opened_row, ranged_row};
-ghost use Rattle.store_directory.specs.Changes.{Types};
+ghost use Rattle.store_directory.specs.Changes.{Gone, Types};
 ghost use Rattle.store_directory.specs.Directory.{find_store};
 ghost use Rattle.store_directory.specs.Kept.{change_of};
+ghost use Rattle.store_policy.specs.Shown.{AreAllTogether};
 
 use control_defs::{Instruction, Pattern, StoreKind};
-use retrieval::{open_from, with_range};
+use retrieval::{after_drop, open_from, with_range};
 use store_directory::{Change, Directory, Row};
 use time_index::Index;
 
@@ -77,7 +78,7 @@ fn start_range(
     t1: u64,
     t2: u64,
 ) -> Option<Change<'static>>
-    requires { length indexes.now ≡ length directory.now.stores }
+    requires { AreAllTogether directory.now.stores indexes.now }
     ensures { option_map change_of result
         ≡ put_by (ranged_row t1 t2 (index_for store directory.now.stores indexes.now))
         (find_store store directory.now.stores) }
@@ -93,13 +94,43 @@ fn move_open(
     store: u16,
     t: u64,
 ) -> Option<Change<'static>>
-    requires { length indexes.now ≡ length directory.now.stores }
+    requires { AreAllTogether directory.now.stores indexes.now }
     ensures { option_map change_of result
         ≡ put_by (opened_row t (index_for store directory.now.stores indexes.now))
         (find_store store directory.now.stores) }
 {
     let at = directory.find(store)?;
     Some(Change::Put(open_from(directory.row(at), &indexes[at as usize], t)))
+}
+
+// The put of a store without its packets with times of at most `t`, of which it has not been told that
+// it is full.
+fn delete_up_to(
+    directory: &Directory,
+    indexes: &[Index],
+    store: u16,
+    t: u64,
+) -> Option<Change<'static>>
+    requires { AreAllTogether directory.now.stores indexes.now }
+    ensures { option_map change_of result
+        ≡ put_by (deleted_row t (index_for store directory.now.stores indexes.now))
+        (find_store store directory.now.stores) }
+{
+    let at = directory.find(store)?;
+    let leaving = indexes[at as usize].first_after(t);
+    Some(Change::Put(Row {
+        told: false,
+        ..after_drop(directory.row(at), leaving)
+    }))
+}
+
+// The end of a store, if it stands.
+fn remove(directory: &Directory, store: u16) -> Option<Change<'static>>
+    ensures { option_map change_of result
+        ≡ option_map (λ _. Gone store) (find_store store directory.now.stores) }
+{
+    let _ = directory.find(store)?;
+    Some(Change::Gone(store))
 }
 
 // A pattern of a store is added, or else removed, if the store stands.
@@ -128,7 +159,7 @@ pub(crate) fn change_for(
     indexes: &[Index],
     item: &Instruction,
 ) -> Option<Change<'static>>
-    requires { length indexes.now ≡ length directory.now.stores }
+    requires { AreAllTogether directory.now.stores indexes.now }
     ensures { option_map change_of result
         ≡ change_by directory.now.directory indexes.now item.now }
 {
@@ -147,10 +178,12 @@ pub(crate) fn change_for(
         Instruction::StartRange { store, t1, t2 } => {
             start_range(directory, indexes, store, t1, t2)
         }
+        Instruction::DeleteUpTo { store, t } => delete_up_to(directory, indexes, store, t),
         Instruction::OpenFrom { store, t } => move_open(directory, indexes, store, t),
         Instruction::Resume(store) => set_open(directory, store, true),
         Instruction::Suspend(store) => set_open(directory, store, false),
         Instruction::Abort(store) => end_range(directory, store),
+        Instruction::Remove(store) => remove(directory, store),
         Instruction::ToCircular(store) => set_kind(directory, store, StoreKind::Circular),
         Instruction::ToBounded(store) => set_kind(directory, store, StoreKind::Bounded),
         Instruction::Channel { store, channel } => set_channel(directory, store, channel),

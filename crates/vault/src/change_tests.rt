@@ -254,6 +254,90 @@ fn kind_and_channel_are_changed(rt: HostRuntime) -> Result<(), Fail> {
     Ok(())
 }
 
+// How many stores there are; of the first one the number of its first record, how many packets it has, and
+// the position of its open retrieval; and whether its last block is stale.
+type Left = (u32, (u32, u32, u32), bool);
+
+fn left(vault: &Vault) -> Option<Left>
+    requires { vault.now.is_open ≡ true }
+{
+    let View {
+        directory,
+        indexes: _,
+        blocks: _,
+    } = vault.view();
+    if directory.len() == 0 {
+        return None;
+    }
+    let row = directory.row(0);
+    let place = (row.first, row.count, row.behind);
+    Some((directory.len(), place, vault.stale(0)))
+}
+
+// What is left when the device is opened.
+fn opened_left(alloc: Global, board: &mut MemBoard) -> Option<Left> {
+    match Vault::open(alloc, board) {
+        Ok(vault) => left(&vault),
+        Err(_) => None,
+    }
+}
+
+// What is left behind a request, and how many of its instructions failed. None if it is something else
+// when the device is opened again.
+fn deleted(
+    alloc: Global,
+    patches: &[Patch],
+    items: &[Instruction],
+) -> Result<Option<(Left, usize)>, Fail>
+    requires carried { CanBeCarried items.now }
+{
+    let mut board = device(alloc, [0; 3], [true, false], patches)?;
+    let Ok(mut vault) = Vault::open(alloc, &mut board) else {
+        return Ok(None);
+    };
+    let Ok(outcome) = vault.change(alloc, &mut board, items, 0) else {
+        return Ok(None);
+    };
+    let now = left(&vault);
+    if opened_left(alloc, &mut board) != now {
+        return Ok(None);
+    }
+    Ok(now.map(|left| (left, outcome.refused.len())))
+}
+
+// The times of the two packets are 4 and 9, and the first one was retrieved.
+#[test]
+fn packets_leave_the_front(rt: HostRuntime) -> Result<(), Fail> {
+    let off: &[Patch] = &[ALL_OFF];
+    let none = Instruction::DeleteUpTo { store: 1, t: 3 };
+    let done = deleted(rt.alloc(), off, &[none])?;
+    assert_eq!(rt; done, Some(((2, (6, 2, 1), true), 0)));
+    let first = Instruction::DeleteUpTo { store: 1, t: 4 };
+    let done = deleted(rt.alloc(), off, &[first])?;
+    assert_eq!(rt; done, Some(((2, (7, 1, 0), true), 0)));
+    let both = Instruction::DeleteUpTo { store: 1, t: 9 };
+    let done = deleted(rt.alloc(), off, &[first, both])?;
+    assert_eq!(rt; done, Some(((2, (8, 0, 0), false), 0)));
+    // open retrieval is on
+    let done = deleted(rt.alloc(), &[], &[both])?;
+    assert_eq!(rt; done, Some(((2, (6, 2, 1), true), 1)));
+    Ok(())
+}
+
+#[test]
+fn stores_go(rt: HostRuntime) -> Result<(), Fail> {
+    let off: &[Patch] = &[ALL_OFF];
+    // the storage of the second store is on, and the first one goes once
+    let items = [
+        Instruction::Remove(2),
+        Instruction::Remove(1),
+        Instruction::Remove(1),
+    ];
+    let done = deleted(rt.alloc(), off, &items)?;
+    assert_eq!(rt; done, Some(((1, (0, 0, 0), false), 2)));
+    Ok(())
+}
+
 #[test]
 fn the_others_stand_if_one_fails(rt: HostRuntime) -> Result<(), Fail> {
     let items = [

@@ -10,6 +10,7 @@ mod copying;
 mod entering;
 mod fault;
 mod fetching;
+mod following;
 mod formatting;
 mod granting;
 mod held_record;

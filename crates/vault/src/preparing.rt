@@ -1,17 +1,18 @@
 // A request, prepared in memory: its instructions are carried out, its reports are counted, and the
 // text of its entry is written.
-ghost use Rattle.std.specs.Prelude.{◌≡◌, ◌+◌, ◌≤◌, ◌<◌, ◌^◌, All, Some, length, take};
+ghost use Rattle.std.specs.Prelude.{◌≡◌, ◌+◌, ◌≤◌, ◌<◌, ◌^◌, Some, length, take, true};
 ghost use Rattle.octet_fields.specs.Fields.{Writes};
 ghost use Rattle.image_table.specs.Granting.{counted};
-ghost use Rattle.request_laws.specs.Changing.{BeginsWell};
 ghost use Rattle.request_laws.specs.Counting.{CanBeCarried};
 ghost use Rattle.store_directory.specs.Changes.{apply};
-ghost use Rattle.store_directory.specs.Directory.{reserved_by};
 ghost use Rattle.store_directory.specs.Entries.{change_octets};
-ghost use Rattle.store_policy.specs.Shown.{AreAllTogether};
+ghost use Rattle.store_load.specs.Claims.{may_share};
+ghost use Rattle.vault.specs.Following.{Stores};
+ghost use Rattle.vault.specs.Memory.{EachStore, IsSoundStore};
 ghost use Rattle.vault.specs.Requests.{IsPrepared};
 
 use crate::carrying_out::{Carried, carry_out_all};
+use crate::last_block::LastBlock;
 use crate::request_reports::reports_on;
 use control_defs::Instruction;
 use std::alloc::Global;
@@ -51,24 +52,39 @@ fn count_reports(
 pub(crate) fn prepare(
     alloc: Global,
     directory: &mut Directory,
-    indexes: &[Index],
+    indexes: &mut Vec<Index>,
+    lasts: &mut Vec<LastBlock>,
     blocks: u32,
     items: &[Instruction],
     acks: u8,
     out: &mut [u8],
 ) -> Carried
-    requires together { AreAllTogether directory.old.stores indexes.now }
-    requires begins { All BeginsWell directory.old.stores }
+    requires stores { EachStore (IsSoundStore directory.old.now) directory.old.stores
+        indexes.old.items lasts.old.items }
+    requires share { may_share 240 blocks directory.old.stores ≡ true }
     requires least { 16 ≤ blocks }
     requires most { blocks ≤ 512 }
-    requires reserved { reserved_by directory.old.stores + 8 ≤ blocks }
     requires carried { CanBeCarried items.now }
     requires room { length out.old ≡ 65536 }
-    ensures prepared { IsPrepared blocks acks indexes.now items.now directory.old.directory
-        directory.new.directory result.refused.items (take result.size out.new) }
+    ensures prepared { IsPrepared blocks acks items.now
+        (record {
+          directory = directory.old.directory;
+          indexes = indexes.old.items;
+          lasts = lasts.old.items;
+        })
+        (record {
+          directory = directory.new.directory;
+          indexes = indexes.new.items;
+          lasts = lasts.new.items;
+        })
+        result.refused.items (take result.size out.new) }
     ensures size { result.size ≤ 969 }
 {
-    let Carried { refused, size } = carry_out_all(alloc, directory, indexes, blocks, items, out);
+    // the number of stores is not used: with it comes what the directory keeps
+    let _ = directory.len();
+    let Carried { refused, size } = carry_out_all(
+        alloc, directory, indexes, lasts, blocks, items, out,
+    );
     let made = reports_on(items, acks, refused.len() as u16);
     let size = count_reports(alloc, directory, made, size, out);
     Carried { refused, size }

@@ -3,7 +3,8 @@
 // Order: the journal gets room first, so that the checkpoint is the directory from before the
 // request. Then the instructions are carried out in memory. Each change is written behind the others
 // into the text of one entry, which ends with the count of the reports and is committed at once. So
-// a power loss leaves all of the request or nothing.
+// a power loss leaves all of the request or nothing. The blocks that left the stores are given back
+// last: until the entry counts, a power loss leaves a table that is read from them.
 
 ghost use Rattle.std.specs.Prelude.{◌≡◌, ◌+◌, ◌<◌, ℕ, List, true, map, IfErr, IfOk, OnErr, OnOk, is_ok};
 ghost use Rattle.board.specs.Counts.{Rose};
@@ -31,6 +32,7 @@ use board::Board;
 use control_defs::Instruction;
 use std::alloc::Global;
 use store_policy::Refusal;
+use store_put::settle;
 
 /// What a request did.
 #[derive(Drop)]
@@ -129,7 +131,8 @@ impl Vault {
         let carried = prepare(
             alloc,
             &mut self.directory,
-            &self.indexes,
+            &mut self.indexes,
+            &mut self.lasts,
             self.blocks,
             instructions,
             acks,
@@ -137,10 +140,13 @@ impl Vault {
         );
         let entry = &self.buffer[..carried.size as usize];
         match add_entry(board, entry, &mut self.journal) {
-            Ok(()) => Ok(ChangeOutcome {
-                refused: carried.refused,
-                first_report,
-            }),
+            Ok(()) => {
+                settle(&self.directory, &mut self.pool);
+                Ok(ChangeOutcome {
+                    refused: carried.refused,
+                    first_report,
+                })
+            }
             Err(_) => {
                 self.is_open = false;
                 Err(ChangeFault::Flash)

@@ -13,7 +13,7 @@ use std::test::Fail;
 type Case = (&'static str, &'static [(u8, &'static str)]);
 
 /// Each in a session of its own, at moment 7.
-const ALONE: [Case; 58] = [
+const ALONE: [Case; 60] = [
     // another APID, in any packet
     ("180bc0000004200f120000", &[(2, "01000b")]),
     ("07ffc000000000", &[(2, "0107ff")]),
@@ -44,10 +44,10 @@ const ALONE: [Case; 58] = [
     ("180ac0000004200f090000", &[(2, "050000")]),
     ("180ac0000007200f0e0000010001", &[(2, "050003")]),
     ("180ac0000007200f1c0000010001", &[(2, "050003")]),
+    ("180ac0000004200f0b0000", &[(2, "050000")]),
+    ("180ac0000007200f150000020001", &[(2, "050003")]),
     // known and not carried out yet, whatever their data is
-    ("180ac0000004200f0b0000", &[(2, "04000b")]),
     ("180ac0000007200f140000010001", &[(2, "040014")]),
-    ("180ac0000004200f150000", &[(2, "040015")]),
     ("180ac0000007200f180000010001", &[(2, "040018")]),
     ("180ac0000004200f190000", &[(2, "040019")]),
     // patterns of no form, with an APID past the last one, and with fields that are not used and
@@ -112,6 +112,16 @@ const ALONE: [Case; 58] = [
     (
         "180ac000000d200f0e0000 01 0001 000000000005",
         &[(4, "0d0001"), (8, "170001")],
+    ),
+    // packets that are deleted while open retrieval is on, and of a store that does not stand
+    (
+        "180ac0000015200f0b0000 02 0001 000000000005 0002 000000000005",
+        &[(4, "0d0001"), (4, "060002"), (8, "170002")],
+    ),
+    // stores that are deleted: one that does not stand, and one whose storage is on
+    (
+        "180ac0000009200f150000 02 0002 0001",
+        &[(4, "060001"), (4, "0c0002"), (8, "170002")],
     ),
     // another kind, and the same one, while storage is on; behind it, while open retrieval is on
     (
@@ -293,6 +303,39 @@ R 00000000000c 180ac0000004200f160000
 0 080ac0000015200f170000000000000000000c010001010000004007
 "
         .as_slice();
+    assert!(rt; sent.as_slice() == expected);
+    Ok(())
+}
+
+// Two packets leave the front, and the third one is retrieved. Then the store is deleted, so the fourth
+// one is stored nowhere.
+#[test]
+fn packets_and_stores_are_deleted(rt: HostRuntime) -> Result<(), Fail> {
+    let alloc = rt.alloc();
+    let text = "A 000000000001 0864c000000001
+A 000000000002 0864c000000002
+A 000000000003 0864c000000003
+R 000000000004 180ac0000007200f100000010001
+R 000000000004 180ac000000d200f0b0000010001000000000002
+R 000000000004 180ac0000007200f0c0000010001
+R 000000000004 180ac0000007200f0f0000010001
+G 000000000005
+R 000000000006 180ac0000007200f020000010001
+R 000000000006 180ac0000007200f100000010001
+R 000000000006 180ac0000007200f150000010001
+A 000000000007 0864c000000004
+R 000000000008 180ac0000004200f160000
+G 000000000009
+";
+    let Some(sent) = sent(alloc, text)? else {
+        panic!(rt; "no end");
+    };
+    let expected =
+        b"0 080ac0000027200f0d00000000000000000004010001000000010000000100000000000300000000000300000001
+1 0864c000000003
+0 080ac001000d200f170000000000000000000800
+"
+            .as_slice();
     assert!(rt; sent.as_slice() == expected);
     Ok(())
 }

@@ -2,4 +2,4 @@ use Rattle.request_laws.proofs.Walking.{fails}
 use Rattle.request_laws.proofs.carrying.instructions_fail.Goals as goal
 
 pub returns : goal.returns
-returns c = λ blocks d table items at changes before item code walk there. fails blocks d table items at changes before item walk there code
+returns c = λ blocks d table items at changes before indexes item code walk there. fails blocks d table items at changes before indexes item walk there code
