@@ -15,6 +15,7 @@ use Rattle.handler.specs.Carrying.{BreaksOff, CarriesOut, GoesInStep, HasSent, I
 use Rattle.station.specs.declared.ending.Ending.{Ending}
 use Rattle.station.specs.declared.ending.Ending.TheVariants.{FlashFault, LinkFault}
 use Rattle.station.specs.Carrying.{EndsOnTable, OnTable}
+use Rattle.station.specs.Retrieving.{RetrievesInOrder}
 use Rattle.station.specs.Session.{EndsHolding, EndsSending, HoldsAll, LeavesNow, SendsAll}
 use Rattle.station.specs.Turns.{HoldsPrefix, InTurn}
 use Rattle.station.proofs.Turns.{either_next, holds_same, next_table, prefix_done, prefix_more, prefix_step, turn_between, turn_more, turn_step}
@@ -103,13 +104,14 @@ module _ {B : Type 0} (means : BoardMeaning B) (first : B) (table : Table) where
     pub ends_still : IsSound vault → (others : List Command) (ending : Ending)
         → (HoldsAll means blocks so_far board → EndsHolding means blocks table done others board ending)
         → (SendsAll means first board (outputs_of blocks table done) → EndsSending means blocks table done others first board ending)
-        → EndsOnTable means first board table done others ending
-    ends_still sound others ending holding sending = record {
+        → RetrievesInOrder blocks table (done ++ others) → EndsOnTable means first board table done others ending
+    ends_still sound others ending holding sending retrieval = record {
       moments = λ link. runs.weaker means first board _ _ (on.moments link) (λ octets gains. gains_behind blocks table done others before octets gains);
       in_turn = λ link. shows_weaker means first board _ _ (on.in_turn link) (λ octets image turn. turn_more blocks table done others before octets image turn);
       prefix = weaker means first board _ _ on.prefix (λ image held. prefix_more blocks table done others image held);
       holding = holding (holds_all sound);
       sending = sending on.sends;
+      retrieval = retrieval;
     }
 
     module _ (board' : B) (device : means.device board ≡ means.device first) (flash : TellsFlash means first) (command : Command)
@@ -203,8 +205,8 @@ module _ {B : Type 0} (means : BoardMeaning B) (first : B) (table : Table) where
 
       -- the link failed
       pub ends_broken : (others : List Command) → BreaksOff means board board' vault (steps_of (means.device board).blocks command)
-          → EndsOnTable means first board' table done (command ∷ others) LinkFault
-      ends_broken others breaks = record {
+          → RetrievesInOrder blocks table (done ++ command ∷ others) → EndsOnTable means first board' table done (command ∷ others) LinkFault
+      ends_broken others breaks retrieval = record {
         moments = moments_step others;
         in_turn = shows_step others;
         prefix = leaves_step others;
@@ -218,6 +220,7 @@ module _ {B : Type 0} (means : BoardMeaning B) (first : B) (table : Table) where
               (front.each (means.moment board') front.later (omega arith));
           most = omega (arith, on.sends.most, most);
         };
+        retrieval = retrieval;
       }
         where
           most : (means.counts board').sends ≤ (means.counts board).sends + length own.outputs
@@ -226,8 +229,8 @@ module _ {B : Type 0} (means : BoardMeaning B) (first : B) (table : Table) where
 
       -- the flash failed
       pub ends_failed : (others : List Command) → (TellsLink means board → SendsNothing means board board') → (means.counts board').sends ≡ (means.counts board).sends
-          → EndsOnTable means first board' table done (command ∷ others) FlashFault
-      ends_failed others unsent uncalled = record {
+          → RetrievesInOrder blocks table (done ++ command ∷ others) → EndsOnTable means first board' table done (command ∷ others) FlashFault
+      ends_failed others unsent uncalled retrieval = record {
         moments = moments_step others;
         in_turn = shows_step others;
         prefix = leaves_step others;
@@ -240,4 +243,5 @@ module _ {B : Type 0} (means : BoardMeaning B) (first : B) (table : Table) where
           least = subst (λ (n : ℕ). RoseBy (length (outputs_of blocks table done)) (means.counts first).sends n) (sym uncalled) on.sends.least;
           most = omega (arith, on.sends.most, uncalled);
         };
+        retrieval = retrieval;
       }

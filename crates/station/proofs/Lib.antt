@@ -3,6 +3,7 @@ pub mod Turns
 pub mod Commands
 pub mod Progress
 pub mod Firm
+pub mod Retrieving
 pub mod Since
 pub mod Quiet
 pub mod Running

@@ -13,6 +13,7 @@ use Rattle.station.specs.declared.ending.Ending.{Ending}
 use Rattle.station.specs.declared.ending.Ending.TheVariants.{BadLine, BadWords, Done, FlashFault, LinkFault, Mismatch, NoMemory, NotHeld, SourceFault}
 use Rattle.station.specs.Carrying.{Carried, Ended, EndsOnTable, OnTable}
 use Rattle.station.specs.Reading.{EndsReading, IsStart, read_of, taken_of, text_limit}
+use Rattle.station.specs.Retrieving.{RetrievesInOrder}
 use Rattle.station.specs.Session.{EndsHolding, EndsSending, HoldsAll, SendsAll}
 use Rattle.station.specs.Station.{HasCauses, Keeps}
 use Rattle.station.specs.Tallies.{and_sent, no_tally}
@@ -20,7 +21,8 @@ use Rattle.station.specs.declared.tally.Tally.{Tally}
 use Rattle.station.specs.Working.{CommandWorks, TurnWorks}
 use Rattle.station.proofs.Commands.{ends_broken, ends_failed, ends_still, on_table_first, on_table_more, steps_of}
 use Rattle.station.proofs.Tallying.{tally_more, tally_none}
-use Rattle.station.proofs.Taken.{IfTold, Taken, if_told, taken, taken_none, unread}
+use Rattle.station.proofs.Retrieving.{retrieves, retrieves_none}
+use Rattle.station.proofs.Taken.{IfTold, Taken, if_told, none_read, taken, taken_none}
 use Rattle.station.proofs.Workings.{plain_split, worked_more, worked_none, works_for}
 use Rattle.pst_model.specs.declared.faults.LineFault.{LineFault}
 use Rattle.pst_model.specs.Command.{Command}
@@ -50,6 +52,7 @@ pub carried_none : {B S : Type 0} (means : BoardMeaning B) (input : SourceMeanin
     → Carried means input board board source source vault reader vault tally
 carried_none means input board source reader vault tally empty start same sound now = record {
   done = [];
+  sound = sound;
   live = ap (λ (r : Reader). r.live) start;
   limit = ap (λ (r : Reader). r.limit) start;
   read = λ told. subst (λ (r : Reader). HasRead (input.left source) [] r (input.left source)) (sym start) (has_read_none text_limit (input.left source));
@@ -92,20 +95,19 @@ pub ended_unbegun : {B S : Type 0} (means : BoardMeaning B) (input : SourceMeani
     → ((image : ℕ → List ℕ) → TellsFlash means board → means.images board (means.moment board) image → IsImage (means.device board).blocks (means.flash board) image)
     → Ended means input board board source source vault NoMemory tally
 ended_unbegun means input board source vault tally empty same sound now =
-    let others : IfTold (input.tells source) (λ (list : List Command). [] ++ list ≡ read_of (input.left source) (input.left source)) = unread (input.tells source) (input.left source) in
     record {
       known = λ is. cc;
       held = λ is. cc;
       done = [];
-      others = others.list;
-      read = others.is;
+      others = [];
+      read = λ told. sym (none_read (input.left source));
       reading = λ told. (refl, refl);
       broken = λ is. absurd cc;
       taken = λ told. (taken_none (input.left source)).split;
       causes = causes_none means input board board source source refl refl NoMemory (λ is. cc) (λ is. cc) (λ is. absurd cc) (λ block page kept found is. cc) (λ other. refl);
       keeps = record { device = refl; tells = refl; takes_from = omega arith; takes_to = λ told. omega arith };
       on_table = λ flash table stands. ends_still means board table board vault [] same
-          (on_table_first means board table vault same sound stands (λ image left. now image flash left)) sound others.list NoMemory (λ held. held) (λ sent. sent);
+          (on_table_first means board table vault same sound stands (λ image left. now image flash left)) sound [] NoMemory (λ held. held) (λ sent. sent) (retrieves_none (means.device board).blocks table);
       counted = λ flash table stands. tally_none tally empty;
       work = λ is. absurd cc;
     }
@@ -154,7 +156,8 @@ module _ {B S : Type 0} (means : BoardMeaning B) (input : SourceMeaning S)
       taken = λ told. (so_far told).split;
       causes = causes;
       keeps = keeps_on board carried.device;
-      on_table = λ flash table stands. ends_still means first table board opened.vault carried.done same (carried.on_table flash table stands) sound others.list ending (holding table others.list) (sending table others.list);
+      on_table = λ flash table stands. ends_still means first table board opened.vault carried.done same (carried.on_table flash table stands) sound others.list ending (holding table others.list) (sending table others.list)
+          (retrieves blocks begun (means.flash first) table (carried.done ++ others.list) carried.sound stands);
       counted = carried.counted;
       work = λ is flash table stands fresh plain. works_for (carried.work flash table stands fresh plain);
     }
@@ -243,7 +246,7 @@ module _ {B S : Type 0} (means : BoardMeaning B) (input : SourceMeaning S)
     -- the session ended within the command
     ended_within : (ending : Ending) → ending ≢ BadWords → ending ≢ NotHeld → ending ≢ Done → EndsReading (input.left origin) (input.left source') carried.done ending → means.device board' ≡ means.device board
         → HasCauses means input first board' origin source' ending
-        → (TellsFlash means first → (table : Table) → OnTable means first board table opened.vault carried.done → EndsOnTable means first board' table carried.done (command ∷ behind.list) ending)
+        → (TellsFlash means first → (table : Table) → OnTable means first board table opened.vault carried.done → RetrievesInOrder blocks table (carried.done ++ command ∷ behind.list) → EndsOnTable means first board' table carried.done (command ∷ behind.list) ending)
         → Ended means input first board' origin source' begun ending tally
     ended_within ending known held unfinished reading device causes ends = record {
       known = known;
@@ -256,7 +259,8 @@ module _ {B S : Type 0} (means : BoardMeaning B) (input : SourceMeaning S)
       taken = λ told. (taken_on told).split;
       causes = causes;
       keeps = keeps_on source' reader' (Said command) steps board' (device ∙ carried.device);
-      on_table = λ flash table stands. ends flash table (carried.on_table flash table stands);
+      on_table = λ flash table stands. ends flash table (carried.on_table flash table stands)
+          (retrieves blocks begun (means.flash first) table (carried.done ++ command ∷ behind.list) carried.sound stands);
       counted = carried.counted;
       work = λ is. absurd (unfinished is);
     }
@@ -267,6 +271,7 @@ module _ {B S : Type 0} (means : BoardMeaning B) (input : SourceMeaning S)
         → Carried means input first board' origin source' begun reader' after.vault (and_sent tally sent)
     goes_further sent answers works = record {
       done = carried.done ++ command ∷ [];
+      sound = carried.sound;
       live = steps.moves.live;
       limit = limit_on source' reader' (Said command) steps;
       read = read_on;
@@ -313,8 +318,8 @@ module _ {B S : Type 0} (means : BoardMeaning B) (input : SourceMeaning S)
           source_cause = λ is. absurd cc;
           source_kept = λ other. unfailed ∙ carried.source_faults;
         })
-        (λ flash table on. ends_broken means first table board opened.vault carried.done same on board' carried.device flash command answers.in_step answers.moments answers.either behind.list
-        (answers.breaks (tells_too carried.device flash)))
+        (λ flash table on retrieval. ends_broken means first table board opened.vault carried.done same on board' carried.device flash command answers.in_step answers.moments answers.either behind.list
+        (answers.breaks (tells_too carried.device flash)) retrieval)
 
     -- the flash failed within it
     pub ended_flash : Answers means board board' opened after (steps_of (means.device board).blocks command) (Err faults.Flash) → Ended means input first board' origin source' begun FlashFault tally
@@ -330,8 +335,8 @@ module _ {B S : Type 0} (means : BoardMeaning B) (input : SourceMeaning S)
           source_cause = λ is. absurd cc;
           source_kept = λ other. unfailed ∙ carried.source_faults;
         })
-        (λ flash table on. ends_failed means first table board opened.vault carried.done same on board' carried.device flash command answers.in_step answers.moments answers.either behind.list
-        answers.unsent.0 answers.unsent.1)
+        (λ flash table on retrieval. ends_failed means first table board opened.vault carried.done same on board' carried.device flash command answers.in_step answers.moments answers.either behind.list
+        answers.unsent.0 answers.unsent.1 retrieval)
 
     -- what is found is not what was kept
     pub ended_mismatch : (block page kept found : ℕ) → Answers means board board' opened after (steps_of (means.device board).blocks command) (Err (faults.Mismatch block page kept found))
@@ -348,7 +353,7 @@ module _ {B S : Type 0} (means : BoardMeaning B) (input : SourceMeaning S)
           source_cause = λ is. absurd cc;
           source_kept = λ other. unfailed ∙ carried.source_faults;
         })
-        (λ flash table on. absurd (untold flash))
+        (λ flash table on retrieval. absurd (untold flash))
       where
         untold : TellsFlash means first → ⊥
         untold flash = answers.cause.1 (tells_too carried.device flash)

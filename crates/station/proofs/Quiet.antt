@@ -1,5 +1,5 @@
 -- What opening a table, a barrier or a format does before a session.
-use Rattle.std.proofs.Common.{◌≡◌, ◌≢◌, ◌≤◌, ◌⊎◌, inl, inr, ℕ, ◌+◌, ◌*◌, List, [], ◌++◌, Some, None, length, refl, sym, ◌∙◌, ap, subst, arith}
+use Rattle.std.proofs.Common.{◌≡◌, ◌≢◌, ◌≤◌, ◌⊎◌, inl, inr, ℕ, ◌+◌, ◌*◌, List, [], Some, None, length, refl, sym, ◌∙◌, ap, subst, arith}
 use Rattle.std.proofs.lemmas.Option.{same_Some}
 use Rattle.std.specs.Prelude.{IsTrue}
 use Rattle.board.specs.Device.{Device}
@@ -16,7 +16,7 @@ use Rattle.station.specs.declared.ending.Ending.{Ending}
 use Rattle.station.specs.declared.ending.Ending.TheVariants.{BadWords, Done, FlashFault, LinkFault, NoMemory, NotHeld}
 use Rattle.station.specs.Carrying.{Ended, EndsOnTable}
 use Rattle.station.specs.Opening.{Opened}
-use Rattle.station.specs.Reading.{EndsReading, read_of}
+use Rattle.station.specs.Reading.{EndsReading}
 use Rattle.station.specs.Session.{EndsHolding, EndsSending, HoldsAll, SendsAll}
 use Rattle.station.specs.Station.{HasCauses, Keeps, Refuses, SendsNone, WritesNothing}
 use Rattle.station.proofs.Firm.{firm_holds, still_firm}
@@ -25,7 +25,8 @@ use Rattle.station.specs.Tallies.{IsTallyOf, no_tally}
 use Rattle.station.proofs.Tallying.{tally_none}
 use Rattle.turn_laws.specs.Turns.{outputs_of}
 use Rattle.station.proofs.Since.{causes_since, ends_here, ends_since, keeps_since}
-use Rattle.station.proofs.Taken.{IfTold, taken_none, unread}
+use Rattle.station.proofs.Retrieving.{retrieves_none}
+use Rattle.station.proofs.Taken.{none_read, taken_none}
 use Rattle.station.proofs.Workings.{works_since}
 use Rattle.station.specs.Working.{AreEmpty, NoneIsStale, WorksFor}
 use Rattle.image_table.specs.Standing.{HoldsTable}
@@ -142,14 +143,14 @@ module _ {B : Type 0} (means : BoardMeaning B) (old mid : B) where
     }
 
     -- what such a run makes of a session that ends behind it without a command
-    pub ends_quiet : TellsFlash means old → AllFirm (means.flash old) → (table : Table) → Holds table → (others : List Command) (ending : Ending)
-        → (HoldsAll means (means.device mid).blocks table mid → EndsHolding means (means.device mid).blocks table [] others mid ending)
-        → (SendsAll means mid mid [] → EndsSending means (means.device mid).blocks table [] others mid mid ending)
-        → EndsOnTable means old mid table [] others ending
-    ends_quiet told firm table held others ending holding sending =
+    pub ends_quiet : TellsFlash means old → AllFirm (means.flash old) → (table : Table) → Holds table → (ending : Ending)
+        → (HoldsAll means (means.device mid).blocks table mid → EndsHolding means (means.device mid).blocks table [] [] mid ending)
+        → (SendsAll means mid mid [] → EndsSending means (means.device mid).blocks table [] [] mid mid ending)
+        → EndsOnTable means old mid table [] [] ending
+    ends_quiet told firm table held ending holding sending =
         let all = holds_all told firm table held in
-        ends_since means old mid mid quiet.same quiet.sends.unsent quiet.sends.uncalled table [] others ending
-        (ends_here means mid table others ending all (holding all) sending) (leaves_quiet told firm table held)
+        ends_since means old mid mid quiet.same quiet.sends.unsent quiet.sends.uncalled table [] [] ending
+        (ends_here means mid table [] ending all (holding all) sending (retrieves_none (means.device mid).blocks table)) (leaves_quiet told firm table held)
 
     module _ (new : B) where
       writes_on : WritesNothing means mid new → WritesNothing means old new
@@ -226,20 +227,19 @@ module _ {B : Type 0} (means : BoardMeaning B) (old mid : B) where
           → ((ending ≡ NotHeld) ⊎ (ending ≡ FlashFault) ⊎ (ending ≡ NoMemory)) → (ending ≡ NotHeld → TellsFlash means old → table_of blocks (means.flash old).content ≡ None)
           → Opened means input old mid origin origin ending tally
       opened_early ending tally empty known firm reading causes ends refusal none =
-          let others : IfTold (input.tells origin) (λ (list : List Command). [] ++ list ≡ read_of (input.left origin) (input.left origin)) = unread (input.tells origin) (input.left origin) in
           record {
             known = known;
             done = [];
-            others = others.list;
-            read = others.is;
+            others = [];
+            read = λ told. sym (none_read (input.left origin));
             reading = reading;
             broken = λ is. absurd (unbroken refusal is);
             taken = λ told. (taken_none (input.left origin)).split;
             causes = causes;
             keeps = keeps_quiet;
             on_table = λ told table held.
-                let by = ends told table held others.list in
-                ends_quiet told (firm told) table held others.list ending by.0 by.1;
+                let by = ends told table held [] in
+                ends_quiet told (firm told) table held ending by.0 by.1;
             counted = λ told table held. tally_none tally empty;
             work = λ is. absurd (unfinished refusal is);
             unheld = λ told unheld. (refusal, refuses_quiet);

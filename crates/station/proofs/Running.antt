@@ -1,5 +1,5 @@
 -- A session behind a barrier, or behind a format.
-use Rattle.std.proofs.Common.{◌≡◌, ◌≤◌, inl, inr, ℕ, List, [], ◌++◌, refl, sym, subst, arith}
+use Rattle.std.proofs.Common.{◌≡◌, ◌≤◌, inl, inr, ℕ, List, [], refl, sym, subst, arith}
 use Rattle.std.specs.Prelude.{IsTrue}
 use Rattle.board.specs.Counts.{Rose}
 use Rattle.board.specs.Device.{Device}
@@ -10,14 +10,13 @@ use Rattle.station.specs.declared.ending.Ending.{Ending}
 use Rattle.station.specs.declared.ending.Ending.TheVariants.{FlashFault}
 use Rattle.station.specs.declared.tally.Tally.{Tally}
 use Rattle.station.specs.Opening.{Opened}
-use Rattle.station.specs.Reading.{Reads, read_of}
+use Rattle.station.specs.Reading.{Reads}
 use Rattle.station.specs.Station.{BeginsFresh, Begun, HasCauses, Held, Runs, Unbegun}
 use Rattle.station.proofs.Quiet.{BoardLaws, IsQuiet, ends_quiet, held_on, leaves_quiet, none_before, none_on, refuses_on, refuses_quiet}
 use Rattle.station.proofs.Since.{carries_from, carries_now, ends_since}
-use Rattle.station.proofs.Taken.{IfTold, taken_none, unread}
+use Rattle.station.proofs.Taken.{none_read, taken_none}
 use Rattle.image_table.specs.Standing.{HoldsTable}
 use Rattle.meta_journal.specs.Halves.{format_pages}
-use Rattle.pst_model.specs.Command.{Command}
 use Rattle.pst_model.specs.Table.{after_format}
 
 module _ {B S : Type 0} (means : BoardMeaning B) (input : SourceMeaning S) (old mid new : B) (origin source : S) (ending : Ending) where
@@ -61,10 +60,9 @@ module _ {B S : Type 0} (means : BoardMeaning B) (input : SourceMeaning S) (old 
   -- a barrier that failed
   pub runs_failed : IsQuiet means old mid → BoardLaws means old → Runs means input old mid origin origin FlashFault
   runs_failed quiet laws =
-      let others : IfTold (input.tells origin) (λ (list : List Command). [] ++ list ≡ read_of (input.left origin) (input.left origin)) = unread (input.tells origin) (input.left origin) in
       record {
-        session = λ told firm table held. carries_now means input old mid origin origin table [] others.list FlashFault others.is (λ told. tt) (λ is. absurd cc)
-            (ends_quiet means old mid quiet laws told firm table held others.list FlashFault (λ all image left. inl (all.leaves image left)) (λ sent. sent));
+        session = λ told firm table held. carries_now means input old mid origin origin table [] [] FlashFault (λ told. sym (none_read (input.left origin))) (λ told. tt) (λ is. absurd cc)
+            (ends_quiet means old mid quiet laws told firm table held FlashFault (λ all image left. inl (all.leaves image left)) (λ sent. sent));
         loose = λ told table held. Unbegun (record {
           failed = refl;
           sends = quiet.sends;

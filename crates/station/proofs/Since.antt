@@ -15,6 +15,7 @@ use Rattle.station.specs.declared.ending.Ending.{Ending}
 use Rattle.station.specs.declared.ending.Ending.TheVariants.{BadLine, BadWords, Done, FlashFault, LinkFault, Mismatch, NoMemory, NotHeld, SourceFault}
 use Rattle.station.specs.Carrying.{EndsOnTable}
 use Rattle.station.specs.Reading.{EndsReading, HasNext, read_of}
+use Rattle.station.specs.Retrieving.{RetrievesInOrder}
 use Rattle.station.specs.Session.{BreaksWithin, Carries, EndsHolding, EndsSending, HoldsAll, SendsAll}
 use Rattle.station.specs.Station.{HasCauses, IsCaused, Keeps}
 use Rattle.station.specs.Turns.{HoldsPrefix, InTurn}
@@ -31,8 +32,8 @@ module _ {B : Type 0} (means : BoardMeaning B) where
   pub ends_here : (board : B) (table : Table) (others : List Command) (ending : Ending) → HoldsAll means (means.device board).blocks table board
       → EndsHolding means (means.device board).blocks table [] others board ending
       → (SendsAll means board board [] → EndsSending means (means.device board).blocks table [] others board board ending)
-      → EndsOnTable means board board table [] others ending
-  ends_here board table others ending holds holding sending = record {
+      → RetrievesInOrder (means.device board).blocks table others → EndsOnTable means board board table [] others ending
+  ends_here board table others ending holds holding sending retrieval = record {
     moments = λ link. runs.started means board _ (gains_none (means.sent board (means.moment board)) (lines_of (outputs_of (means.device board).blocks table others)));
     in_turn = λ link. shows_first means board _
         (λ image left. turn_between (means.device board).blocks table [] others (means.sent board (means.moment board)) (means.sent board (means.moment board)) image
@@ -44,6 +45,7 @@ module _ {B : Type 0} (means : BoardMeaning B) where
       least = rose_by_none (means.counts board).sends (means.counts board).sends (omega arith);
       most = omega arith;
     });
+    retrieval = retrieval;
   }
 
   module _ (old mid new : B) (same : means.device mid ≡ means.device old) (quiet : TellsLink means old → SendsNothing means old mid)
@@ -124,6 +126,9 @@ module _ {B : Type 0} (means : BoardMeaning B) where
       sending_on = subst (λ (n : ℕ). EndsSending means n table done others old new ending) blocks_same
           (sending_since (means.device mid).blocks table done others ending ends.sending)
 
+      retrieval_since : RetrievesInOrder blocks table (done ++ others)
+      retrieval_since = subst (λ (n : ℕ). RetrievesInOrder n table (done ++ others)) blocks_same ends.retrieval
+
       -- each image held the table until then
       pub ends_since : LeavesOnly means old mid (HoldsTable blocks table) → EndsOnTable means old new table done others ending
       ends_since leaves = record {
@@ -140,6 +145,7 @@ module _ {B : Type 0} (means : BoardMeaning B) where
             (λ image prefix. prefix_since image prefix);
         holding = holding_since;
         sending = sending_on;
+        retrieval = retrieval_since;
       }
 
       module _ {S : Type 0} (input : SourceMeaning S) (origin source : S)
@@ -163,6 +169,7 @@ module _ {B : Type 0} (means : BoardMeaning B) where
           prefix = λ t image from to left. prefix_since image (ends.prefix.each t image from to left);
           holding = holding_since;
           sending = sending_on;
+          retrieval = retrieval_since;
         }
 
   -- from the first moment on
@@ -186,6 +193,7 @@ module _ {B : Type 0} (means : BoardMeaning B) where
     prefix = λ t image from to left. ends.prefix.each t image from to left;
     holding = ends.holding;
     sending = ends.sending;
+    retrieval = ends.retrieval;
   }
 
   -- no call failed until then

@@ -1,5 +1,5 @@
 -- What was taken of a text of which some commands were read.
-use Rattle.std.proofs.Common.{◌≡◌, ℕ, Bool, true, false, List, [], ◌∷◌, ◌++◌, refl, sym, ◌∙◌, ap}
+use Rattle.std.proofs.Common.{◌≡◌, ◌-◌, ℕ, Bool, true, false, List, [], ◌∷◌, ◌++◌, length, take, refl, sym, ◌∙◌, ap, arith}
 use Rattle.std.proofs.lemmas.Bool.{false≢true}
 use Rattle.std.specs.Prelude.{IsTrue}
 use Rattle.station.specs.Reading.{read_of, taken_of, text_limit}
@@ -62,6 +62,9 @@ pub if_told : (told : Bool) (P : List Command → Type 0) → (IsTrue told → (
 if_told true P found = record { list = (found refl).0; is = λ told. (found refl).1 }
 if_told false P found = record { list = []; is = λ told. absurd (false≢true told) }
 
--- the commands read where none was carried out
-pub unread : (told : Bool) (text : List ℕ) → IfTold told (λ (list : List Command). [] ++ list ≡ read_of text text)
-unread told text = if_told told (λ (list : List Command). [] ++ list ≡ read_of text text) (λ is. ((taken_none text).others, (taken_none text).begins))
+-- no command was read where nothing was taken
+pub none_read : (text : List ℕ) → read_of text text ≡ []
+none_read [] = refl
+none_read (octet ∷ left) =
+    let none : length (octet ∷ left) - length (octet ∷ left) ≡ 0 = omega arith in
+    ap (λ (n : ℕ). commands_read text_limit (take n (octet ∷ left))) none

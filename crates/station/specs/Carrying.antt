@@ -6,6 +6,7 @@ use Rattle.station.specs.declared.ending.Ending.{Ending}
 use Rattle.station.specs.declared.ending.Ending.TheVariants.{BadWords, Done, LinkFault, NotHeld}
 use Rattle.station.specs.declared.tally.Tally.{Tally}
 use Rattle.station.specs.Reading.{EndsReading, HasNext, read_of, taken_of, text_limit}
+use Rattle.station.specs.Retrieving.{RetrievesInOrder}
 use Rattle.station.specs.Session.{EndsHolding, EndsSending, LeavesNow, SendsAll}
 use Rattle.station.specs.Station.{HasCauses, Keeps}
 use Rattle.station.specs.Tallies.{IsTallyOf}
@@ -18,7 +19,7 @@ use Rattle.pst_model.specs.Table.{Table}
 use Rattle.session_text.specs.Progress.{HasRead}
 use Rattle.session_text.specs.Reader.{Reader, spare}
 use Rattle.turn_laws.specs.Turns.{outputs_of}
-use Rattle.vault.specs.Memory.{InMemory}
+use Rattle.vault.specs.Memory.{InMemory, IsSound}
 use Rattle.vault.specs.Standing.{StandsFor}
 
 module _ {B : Type 0} (means : BoardMeaning B) where
@@ -51,6 +52,7 @@ module _ {B : Type 0} (means : BoardMeaning B) where
         (HoldsPrefix (means.device first).blocks table (done ++ others))
     pub holding : EndsHolding means (means.device first).blocks table done others board ending
     pub sending : EndsSending means (means.device first).blocks table done others first board ending
+    pub retrieval : RetrievesInOrder (means.device first).blocks table (done ++ others)
 
 module _ {B S : Type 0} (means : BoardMeaning B) (input : SourceMeaning S) where
   -- Since the first board and source, these commands were carried out, and no others were read. If the
@@ -58,6 +60,7 @@ module _ {B S : Type 0} (means : BoardMeaning B) (input : SourceMeaning S) where
   pub record Carried (first board : B) (origin source : S) (begun : InMemory) (reader : Reader)
       (vault : InMemory) (tally : Tally) : Type 0 where
     pub done : List Command
+    pub sound : IsSound begun
     pub live : reader.live ≡ true
     pub limit : reader.limit ≡ text_limit
     pub read : IsTrue (input.tells origin)

@@ -6,6 +6,7 @@ pub mod Numbers
 pub mod Opening
 pub mod Reading
 pub mod Rehearsal
+pub mod Retrieving
 pub mod Session
 pub mod Station
 pub mod Summary

@@ -7,6 +7,7 @@ use Rattle.board.specs.Moments.{GainsFront, SendsOnly}
 use Rattle.station.specs.declared.ending.Ending.{Ending}
 use Rattle.station.specs.declared.ending.Ending.TheVariants.{BadLine, BadWords, Done, FlashFault, LinkFault, Mismatch, NoMemory, NotHeld, SourceFault}
 use Rattle.station.specs.Reading.{EndsReading, HasNext, read_of}
+use Rattle.station.specs.Retrieving.{RetrievesInOrder}
 use Rattle.station.specs.Turns.{HoldsPrefix, InTurn}
 use Rattle.image_table.specs.Standing.{HoldsEitherTable, HoldsTable}
 use Rattle.pst_model.specs.Command.{Command}
@@ -113,3 +114,5 @@ module _ {B S : Type 0} (means : BoardMeaning B) (input : SourceMeaning S) where
         → HoldsPrefix (means.device old).blocks table (done ++ others) image
     pub holding : EndsHolding means (means.device old).blocks table done others new ending
     pub sending : EndsSending means (means.device old).blocks table done others old new ending
+    -- what the retrievals among these lines are
+    pub retrieval : RetrievesInOrder (means.device old).blocks table (done ++ others)
